@@ -1,0 +1,342 @@
+-- The worked cases of document 01, and the slips that it warns of, as one table. Assumes nothing.
+use Prim.Native.Nat.{ℕ, suc, zero, _+_, _-_, _^_}
+use mathlib.Core.Path.{_≡_}
+use mathlib.Core.Bool.{Bool, true, false, _&&_}
+use mathlib.Core.List.{List, [], _∷_, _++_, map}
+use lib.ListN.{length, replicate}
+use lib.Dec.{eqb}
+use Rattle.locks.specs.Lists.{keep, padded, isZero}
+use Rattle.locks.specs.Rows.{owns, waitingOf}
+use Rattle.model.specs.State.{Machine, view, laid, fresh, noProcess}
+use Rattle.model.specs.Outcome.{refusal, badstate, badcaller, asleep, trap, badcall, notmodelled, priv, noproc, nomemory, held, locked, deadlock, lcktable, notlocked}
+use Rattle.model.specs.Step.{stepOf}
+use Rattle.model.specs.declared.state.State.{State}
+use Rattle.model.specs.declared.state.Event.{Event}
+use Rattle.model.specs.declared.state.Answer.{Answer}
+
+-- ---- events
+
+-- kind, call, caller, D0, D1, D2, D3, A0
+abbrev pub event : ℕ → ℕ → ℕ → ℕ → ℕ → ℕ → ℕ → ℕ → Event
+event kind call caller d0 d1 d2 d3 a0 =
+    record { kind = kind; call = call; caller = caller; d0 = d0; d1 = d1; d2 = d2; d3 = d3; a0 = a0; named = false; seq = replicate 16 0 }
+
+-- call, caller, D1, D2, D3, A0
+abbrev pub call : ℕ → ℕ → ℕ → ℕ → ℕ → ℕ → Event
+call n who d1 d2 d3 a0 = event 1 n who 0 d1 d2 d3 a0
+
+-- a call on the first n bytes of a sequence
+abbrev pub named : ℕ → ℕ → ℕ → ℕ → List ℕ → Event
+named n who d2 d3 s =
+    record { kind = 1; call = n; caller = who; d0 = 0; d1 = 0; d2 = d2; d3 = d3; a0 = 0; named = true; seq = padded 16 0 s }
+
+abbrev pub lock : ℕ → ℕ → List ℕ → Event
+lock who d2 s = named 0x3E who d2 (length s) s
+
+abbrev pub unlock : ℕ → List ℕ → Event
+unlock who s = named 0x3F who 0 (length s) s
+
+abbrev pub tick : Event
+tick = event 2 0 0 0 0 0 0 0
+
+abbrev pub takeTrap : ℕ → Event
+takeTrap who = event 3 0 who 0 0 0 0 0
+
+abbrev pub wakeReport : ℕ → Event
+wakeReport who = event 4 0 who 0 0 0 0 0
+
+-- on signal 5: 0 abort, 1 ignore, else trap there
+abbrev pub onAlarm : ℕ → ℕ → Event
+onAlarm who a = call 0x40 who 0 5 0 a
+
+abbrev pub alarm : ℕ → ℕ → Event
+alarm who seconds = call 0x43 who 0 0 seconds 0
+
+abbrev pub sleep : ℕ → ℕ → Event
+sleep who seconds = call 0x42 who 0 0 seconds 0
+
+abbrev pub fshell : ℕ → ℕ → ℕ → Event
+fshell who d1 d2 = call 0x48 who d1 d2 0 0
+
+abbrev pub setPriority : ℕ → ℕ → Event
+setPriority who n = call 0x39 who 0 0 n 0
+
+-- the effective user id becomes n
+abbrev pub becomes : ℕ → ℕ → Event
+becomes who n = call 0x35 who 0 3 n 0
+
+-- ---- answers
+
+abbrev pub gives : ℕ → ℕ → Answer
+gives d3 a0 = record { kind = 0; number = 0; woken = 0; ended = 0; d3 = d3; a0 = a0 }
+
+abbrev pub ok : Answer
+ok = gives 0 0
+
+abbrev pub sleeping : Answer
+sleeping = record { kind = 1; number = 0; woken = 0; ended = 0; d3 = 0; a0 = 0 }
+
+-- done, with these masks
+abbrev pub moves : ℕ → ℕ → Answer
+moves woken ended = record { kind = 0; number = 0; woken = woken; ended = ended; d3 = 0; a0 = 0 }
+
+-- the caller ended, with these masks
+abbrev pub ending : ℕ → ℕ → Answer
+ending woken ended = record { kind = 2; number = 0; woken = woken; ended = ended; d3 = 0; a0 = 0 }
+
+-- ---- A to D, who are ordinary processes, and the sequences
+
+abbrev pub A : ℕ
+A = 2
+
+abbrev pub B : ℕ
+B = 3
+
+abbrev pub C : ℕ
+C = 4
+
+abbrev pub D : ℕ
+D = 5
+
+abbrev pub x : List ℕ
+x = 120 ∷ []
+
+abbrev pub y : List ℕ
+y = 121 ∷ []
+
+abbrev pub ab : List ℕ
+ab = 65 ∷ 66 ∷ []
+
+abbrev pub abc : List ℕ
+abc = 65 ∷ 66 ∷ 67 ∷ []
+
+abbrev pub sixteen : List ℕ
+sixteen = replicate 16 120
+
+abbrev pub shared : ℕ
+shared = 0
+
+abbrev pub unshared : ℕ
+unshared = 1
+
+abbrev pub sharedIf : ℕ
+sharedIf = 2
+
+abbrev pub unsharedIf : ℕ
+unsharedIf = 3
+
+-- ---- cases
+
+-- events with the answer to each, from a state, and a test of the machine after them
+pub record Case : Type 0 where
+  pub from : State
+  pub told : List (Event × Answer)
+  pub leaves : Machine → Bool
+
+-- an event and its answer
+infix 70 _gets_
+
+abbrev pub _gets_ : Event → Answer → Event × Answer
+e gets a = (e, a)
+
+-- the state and the answers after these events
+abbrev pub played : State → List (Event × Answer) → State × List Answer
+played s [] = (s, [])
+played s (t ∷ ts) =
+    let r = stepOf s (t .0) in
+    let rest = played (r .state) ts in
+    (rest .0, r .answer ∷ rest .1)
+
+-- process 1 makes A to D
+abbrev pub births : List (Event × Answer)
+births = fshell 1 0 0 gets gives A 0 ∷ fshell 1 0 0 gets gives B 0 ∷ fshell 1 0 0 gets gives C 0 ∷ fshell 1 0 0 gets gives D 0 ∷ []
+
+-- from the fresh state, with A to D made
+abbrev story : List (Event × Answer) → Case
+story told = record { from = laid fresh; told = births ++ told; leaves = λ m. true }
+
+abbrev storyThen : (Machine → Bool) → List (Event × Answer) → Case
+storyThen leaves told = record { from = laid fresh; told = births ++ told; leaves = leaves }
+
+-- the process has one row, and it is held
+abbrev holds : ℕ → Machine → Bool
+holds n m = eqb (length (keep (owns n) (m .rows))) 1 && isZero (length (waitingOf n (m .rows)))
+
+-- what a case comes to, and what it should come to
+abbrev pub comes : Case → List Answer × Bool
+comes c = let r = played (c .from) (c .told) in (r .1, c .leaves (view (r .0)))
+
+abbrev pub should : Case → List Answer × Bool
+should c = (map (λ t. t .1) (c .told), true)
+
+-- A locks the sequences of one byte from n on, k of them
+abbrev fills : ℕ → ℕ → List (Event × Answer)
+fills n zero = []
+fills n (suc k) = lock A unshared (n ∷ []) gets ok ∷ fills (n + 1) k
+
+-- A and B hold x shared; all unshared, A holds x, B holds y and A waits for y
+abbrev bothShared : List (Event × Answer)
+bothShared = lock A shared x gets ok ∷ lock B shared x gets ok ∷ []
+
+abbrev crossed : List (Event × Answer)
+crossed = lock A unshared x gets ok ∷ lock B unshared y gets ok ∷ lock A unshared y gets sleeping ∷ []
+
+unfoldable pub table : List Case
+table =
+    -- (a) lock length 0: badcall
+    story (named 0x3E A unshared 0 x gets refusal badcall ∷ [])
+    -- (b) 17: badcall
+    ∷ story (named 0x3E A unshared 17 x gets refusal badcall ∷ [])
+    -- (c) length 1 and 16: done
+    ∷ story (lock A unshared x gets ok ∷ lock A unshared sixteen gets ok ∷ [])
+    -- (d) A shared, B shared: both held
+    ∷ storyThen (λ m. holds A m && holds B m) bothShared
+    -- (e) then C unshared: asleep; (f) then D shared: asleep; (g) A and B unlock: C wakes, D does not
+    ∷ storyThen (holds C)
+      (bothShared
+      ++ lock C unshared x gets sleeping
+      ∷ lock D shared x gets sleeping
+      ∷ unlock A x gets ok
+      ∷ unlock B x gets moves 0b1000 0
+      ∷ wakeReport D gets refusal asleep
+      ∷ [])
+    -- (h) deadlock; (i) B asks conditionally: locked
+    ∷ story (crossed ++ lock B unshared x gets refusal deadlock ∷ lock B unsharedIf x gets refusal locked ∷ [])
+    -- (j) priority -1 unprivileged: priv; 41: badcall. And one not negative: done
+    ∷ story
+      (becomes A 100 gets ok
+      ∷ setPriority A (2 ^ 32 - 1) gets refusal priv
+      ∷ setPriority A 41 gets refusal badcall
+      ∷ setPriority A 7 gets ok
+      ∷ call 0x38 A 0 0 0 0 gets gives 7 0
+      ∷ [])
+    -- (k) signal 5 trapped, alarm and sleep both 1, one tick: woken by time, trap then pending
+    ∷ story
+      (onAlarm A 0x1000 gets gives 0 1
+      ∷ alarm A 1 gets ok
+      ∷ sleep A 1 gets sleeping
+      ∷ tick gets moves 0b10 0
+      ∷ wakeReport A gets gives 0 3
+      ∷ call 0x3A A 0 0 0 0 gets refusal trap
+      ∷ takeTrap A gets gives 5 0x1000
+      ∷ takeTrap A gets ok
+      ∷ [])
+    -- "AB" and "ABC" differ; "AB" and "AB" do not
+    ∷ story (lock A unshared abc gets ok ∷ lock B unshared ab gets ok ∷ lock C unshared ab gets sleeping ∷ [])
+    -- a new shared request waits behind an unshared waiter, and is refused where it is conditional
+    ∷ story
+      (lock A shared x gets ok
+      ∷ lock B unshared x gets sleeping
+      ∷ lock C sharedIf x gets refusal locked
+      ∷ lock C shared x gets sleeping
+      ∷ unlock A x gets moves 0b100 0
+      ∷ [])
+    -- a child does not inherit its parent's trap: abort. It inherits ignore, and the masks decide where D1 has 1
+    ∷ story
+      (onAlarm A 0x1000 gets gives 0 1
+      ∷ fshell A 0 0 gets gives 6 0
+      ∷ onAlarm 6 1 gets gives 0 0
+      ∷ call 0x40 6 0 7 0 0 gets gives 0 1
+      ∷ fshell A 0b10000 0b10000 gets gives 7 0
+      ∷ onAlarm 7 0 gets gives 0 1
+      ∷ [])
+    -- a wait behind a waiting neighbour is no deadlock where no chain returns
+    ∷ story
+      (lock C unshared x gets ok
+      ∷ lock A unshared x gets sleeping
+      ∷ lock B unshared y gets ok
+      ∷ lock B unshared x gets sleeping
+      ∷ unlock C x gets moves 0b10 0
+      ∷ unlock A x gets moves 0b100 0
+      ∷ [])
+    -- the conditional forms of lock
+    ∷ story
+      (lock A sharedIf x gets ok
+      ∷ lock B sharedIf x gets ok
+      ∷ lock C unsharedIf x gets refusal locked
+      ∷ lock C unsharedIf y gets ok
+      ∷ lock D sharedIf y gets refusal locked
+      ∷ lock D 4 y gets refusal badcall
+      ∷ lock A unsharedIf x gets refusal held
+      ∷ [])
+    -- a full table: held, locked, deadlock, lcktable, in this order
+    ∷ story
+      (fills 1 29
+      ++ lock B unshared y gets ok
+      ∷ lock C unshared x gets ok
+      ∷ lock A unshared y gets sleeping
+      ∷ lock B sharedIf y gets refusal held
+      ∷ lock B sharedIf (1 ∷ []) gets refusal locked
+      ∷ lock B shared (1 ∷ []) gets refusal deadlock
+      ∷ lock B shared x gets refusal lcktable
+      ∷ lock B shared (40 ∷ []) gets refusal lcktable
+      ∷ [])
+    -- two alarms ring in one tick, the lower PID's holding the row: the other is granted first, and keeps its lock
+    ∷ story
+      (onAlarm A 0 gets gives 0 1
+      ∷ onAlarm B 0x2000 gets gives 0 1
+      ∷ lock A unshared x gets ok
+      ∷ alarm A 1 gets ok
+      ∷ alarm B 1 gets ok
+      ∷ lock B unshared x gets sleeping
+      ∷ tick gets moves 0b100 0b10
+      ∷ wakeReport B gets gives 0 1
+      ∷ takeTrap B gets gives 5 0x2000
+      ∷ unlock B x gets ok
+      ∷ [])
+    -- the lower PID's waiting: the signal ends its wait first
+    ∷ story
+      (onAlarm A 0x1000 gets gives 0 1
+      ∷ onAlarm B 0 gets gives 0 1
+      ∷ lock B unshared x gets ok
+      ∷ alarm A 1 gets ok
+      ∷ alarm B 1 gets ok
+      ∷ lock A unshared x gets sleeping
+      ∷ tick gets moves 0b10 0b100
+      ∷ wakeReport A gets gives 0 2
+      ∷ takeTrap A gets gives 5 0x1000
+      ∷ unlock A x gets refusal notlocked
+      ∷ [])
+    -- the classes of call numbers, the indirect call, and the event kinds
+    ∷ story
+      (call 0x45 A 0 0 0 0 gets refusal notmodelled
+      ∷ call 0x33 A 0 0 0 0 gets refusal notmodelled
+      ∷ call 0x0F A 0 0 0 0 gets refusal badcall
+      ∷ event 1 0x51 A 0x3A 0 0 0 0 gets gives A 0
+      ∷ event 1 0x51 A 0x51 0 0 0 0 gets refusal badcall
+      ∷ event 1 0x51 A 0x100 0 0 0 0 gets refusal badcall
+      ∷ event 1 0x51 A 0 0 0 0 0 gets refusal notmodelled
+      ∷ event 0 0x3A A 0 0 0 0 0 gets refusal badcall
+      ∷ event 5 0x3A 99 0 0 0 0 0 gets refusal badcall
+      ∷ [])
+    -- callers and targets; a kill of oneself; a timed sleep that a signal cuts short; PIDs are not used again
+    ∷ story
+      (call 0x3A 6 0 0 0 0 gets refusal badcaller
+      ∷ call 0x41 A 0 7 9 0 gets refusal noproc
+      ∷ becomes A 100 gets ok
+      ∷ call 0x41 A 0 7 B 0 gets refusal priv
+      ∷ call 0x40 B 0 7 0 0x3000 gets gives 0 1
+      ∷ sleep B 9 gets sleeping
+      ∷ tick gets ok
+      ∷ call 0x41 1 0 7 B 0 gets moves 0b100 0
+      ∷ wakeReport B gets gives 8 2
+      ∷ call 0x41 A 0 3 A 0 gets ending 0 0b10
+      ∷ call 0x46 1 0 0 0 0 gets refusal badcall
+      ∷ fshell 1 0 0 gets gives 6 0
+      ∷ [])
+    -- sixteen live processes
+    ∷ storyThen (λ m. eqb (length (m .procs)) 16)
+      (map (λ n. fshell 1 0 0 gets gives n 0) (6 ∷ 7 ∷ 8 ∷ 9 ∷ 10 ∷ 11 ∷ 12 ∷ 13 ∷ 14 ∷ 15 ∷ 16 ∷ [])
+      ++ fshell 1 0 0 gets refusal nomemory
+      ∷ [])
+    -- a state that is not sound: no process
+    ∷ record {
+      from = record { procs = replicate 16 noProcess; live = 0; table = laid fresh .table; next = 2 };
+      told = tick gets refusal badstate ∷ [];
+      leaves = λ m. true;
+    }
+    ∷ []
+
+-- "Proved of the definitions, as a single statement across one table"
+abbrev pub WorkedCases : Type 0
+WorkedCases = map comes table ≡ map should table
