@@ -8,7 +8,7 @@ use Rattle.locks.specs.Chains.{links, chained, leadsBack}
 use Rattle.model.specs.State.{newProcess, noProcess, view, laid, fresh, lives, firstOf, processOf, inPlace, put, each, granted, rowsLeft}
 use Rattle.model.specs.Signals.{gone, ends, roused, trapped, reacts, arrives, takes, taken}
 use Rattle.model.specs.Clock.{slept, rings, alarms, ticked}
-use Rattle.model.specs.Calls.{modelled, listed, classAmong, classOf, idOf, withId, getId, newIds, setId, inPriority, setPrior, setSignal, sendKill, childReaction, childReactions, child, born, doFShell, doExit, doSleep, rowOf, appended, queued, lockRow, doLock, unlockRow, doUnlock, doCall, ofClass, called}
+use Rattle.model.specs.Calls.{modelled, listed, classAmong, classOf, idOf, withId, getId, newIds, setId, inPriority, setPrior, setSignal, sendKill, childReaction, childReactions, child, born, doFShell, doExit, doSleep, rowOf, appended, queued, lockRow, doLock, unlockRow, doUnlock, ownCall, doCall, ofClass, called}
 use Rattle.model.specs.Sound.{zeroProcess, ascend, pidsFit, sleepFits, wakeFits, quiet, addressed, trapsFit, reactionsFit, soundProcess, lockFits, soundMachine, sound}
 use Rattle.model.specs.Step.{reported, ofCaller, outcome, wokenMask, endedMask, settled, stepOf}
 use Rattle.model.specs.Cases.{table, WorkedCases}
@@ -19,7 +19,7 @@ unfolding
     agree noRow rowsOf laidRows sameSequence conflict waits twin hasTwin waitsOf waitingOf withoutTwin withoutOwner withoutWaiting zeroRow soundRow apart links chained leadsBack
     newProcess noProcess view laid fresh lives firstOf processOf inPlace put each granted rowsLeft
     gone ends roused trapped reacts arrives takes taken trailingZeros slept rings alarms ticked
-    modelled listed classAmong classOf idOf withId getId newIds setId inPriority setPrior setSignal sendKill childReaction childReactions child born doFShell doExit doSleep rowOf appended queued lockRow doLock unlockRow doUnlock doCall ofClass called
+    modelled listed classAmong classOf idOf withId getId newIds setId inPriority setPrior setSignal sendKill childReaction childReactions child born doFShell doExit doSleep rowOf appended queued lockRow doLock unlockRow doUnlock ownCall doCall ofClass called
     zeroProcess ascend pidsFit sleepFits wakeFits quiet addressed trapsFit reactionsFit soundProcess lockFits soundMachine sound
     reported ofCaller outcome wokenMask endedMask settled stepOf
 opened = true

@@ -1,6 +1,6 @@
 -- The calls. Assumes nothing.
 use Prim.Native.Nat.{ℕ, suc, _+_, _-_, _^_}
-use mathlib.Core.Bool.{Bool, true, false, cond, not, _&&_, _||_}
+use mathlib.Core.Bool.{Bool, false, cond, not, _&&_, _||_}
 use mathlib.Core.List.{List, [], _∷_, _++_}
 use lib.ListN.{length, take}
 use lib.Dec.{eqb, leb, ltb}
@@ -14,39 +14,24 @@ use Rattle.model.specs.Signals.{ends, arrives}
 use Rattle.model.specs.declared.state.Ids.{Ids}
 use Rattle.model.specs.declared.state.Process.{Process}
 use Rattle.model.specs.declared.state.Event.{Event}
+use Rattle.model.specs.declared.calls.OwnCall.{OwnCall}
+use Rattle.model.specs.declared.calls.OwnCall.the-variants.{GetUser, SetUser, GetGroup, SetGroup, GetPrior, SetPrior, GetProc, Signal, Sleep, Alarm, Pause}
 use Rattle.model.specs.declared.calls.Call.{Call}
-use Rattle.model.specs.declared.calls.Call.the-variants.{GetUser, SetUser, GetGroup, SetGroup, GetPrior, SetPrior, GetProc, Lock, Unlock, Signal, Kill, Sleep, Alarm, Pause, Exit, FShell}
+use Rattle.model.specs.declared.calls.Call.the-variants.{Own, Lock, Unlock, Kill, Exit, FShell}
 use Rattle.model.specs.declared.calls.Class.{Class}
 use Rattle.model.specs.declared.calls.Class.the-variants.{Modelled, NotModelled, BadCall}
 
 -- ---- call numbers
 
--- "Modelled calls, with the manual's numbers"; indirect is below
-abbrev pub callNumber : Call → ℕ
-callNumber GetUser = 0x34
-callNumber SetUser = 0x35
-callNumber GetGroup = 0x36
-callNumber SetGroup = 0x37
-callNumber GetPrior = 0x38
-callNumber SetPrior = 0x39
-callNumber GetProc = 0x3A
-callNumber Lock = 0x3E
-callNumber Unlock = 0x3F
-callNumber Signal = 0x40
-callNumber Kill = 0x41
-callNumber Sleep = 0x42
-callNumber Alarm = 0x43
-callNumber Pause = 0x44
-callNumber Exit = 0x46
-callNumber FShell = 0x48
+-- "Modelled calls, with the manual's numbers"; the indirect call stands at the end of this file
+unfoldable pub modelled : List (ℕ × Call)
+modelled =
+    (0x34, Own GetUser) ∷ (0x35, Own SetUser) ∷ (0x36, Own GetGroup) ∷ (0x37, Own SetGroup) ∷ (0x38, Own GetPrior)
+    ∷ (0x39, Own SetPrior) ∷ (0x3A, Own GetProc) ∷ (0x3E, Lock) ∷ (0x3F, Unlock) ∷ (0x40, Own Signal) ∷ (0x41, Kill)
+    ∷ (0x42, Own Sleep) ∷ (0x43, Own Alarm) ∷ (0x44, Own Pause) ∷ (0x46, Exit) ∷ (0x48, FShell) ∷ []
 
 abbrev pub indirect : ℕ
 indirect = 0x51
-
-unfoldable pub modelled : List Call
-modelled =
-    GetUser ∷ SetUser ∷ GetGroup ∷ SetGroup ∷ GetPrior ∷ SetPrior ∷ GetProc ∷ Lock ∷ Unlock ∷ Signal ∷ Kill ∷ Sleep ∷ Alarm
-    ∷ Pause ∷ Exit ∷ FShell ∷ []
 
 -- "Listed: 00h-0Eh, 10h-19h, 1Bh, 1Ch, 20h-29h, 30h-3Ah, 3Eh-49h, 4Bh, 4Ch, 4Eh, 50h-56h", 33h among them
 unfoldable pub listed : ℕ → Bool
@@ -55,9 +40,9 @@ listed n =
     || between 0x3E 0x49 n || eqb n 0x4B || eqb n 0x4C || eqb n 0x4E || between 0x50 0x56 n
 
 -- "Call numbers fall into three classes: modelled, listed by the manual but not modelled, and unlisted."
-unfoldable pub classAmong : List Call → ℕ → Class
+unfoldable pub classAmong : List (ℕ × Call) → ℕ → Class
 classAmong [] n = cond (listed n) NotModelled BadCall
-classAmong (c ∷ cs) n = cond (eqb n (callNumber c)) (Modelled c) (classAmong cs n)
+classAmong (c ∷ cs) n = cond (eqb n (c .0)) (Modelled (c .1)) (classAmong cs n)
 
 unfoldable pub classOf : ℕ → Class
 classOf n = classAmong modelled n
@@ -207,21 +192,28 @@ doUnlock p e m = when (badSequence e) badcall (unlockRow (rowOf p e false) m)
 
 -- ---- the call of a live process that is awake and has no trap pending
 
+unfoldable pub ownCall : OwnCall → Process → Event → Outcome Process
+ownCall GetUser p e = getId (p .user) p e
+ownCall SetUser p e = setId withUser (p .user) p e
+ownCall GetGroup p e = getId (p .group) p e
+ownCall SetGroup p e = setId withGroup (p .group) p e
+-- "Get: the caller's, in D3."
+ownCall GetPrior p e = answered done (p .priority) 0 p
+ownCall SetPrior p e = setPrior p e
+-- "The caller's PID in D3."
+ownCall GetProc p e = answered done (p .pid) 0 p
+ownCall Signal p e = setSignal p e
+ownCall Sleep p e = doSleep p e
+-- "D3 seconds replaces any earlier alarm; 0 turns it off."
+ownCall Alarm p e = answered done 0 0 (withAlarm (e .d3) p)
+-- "pause sleeps until a signal that is not ignored"
+ownCall Pause p e = answered nowAsleep 0 0 (asleepFor forSignal 0 p)
+
 unfoldable pub doCall : Call → Process → Event → Machine → Outcome Machine
-doCall GetUser p e m = own m (getId (p .user) p e)
-doCall SetUser p e m = own m (setId withUser (p .user) p e)
-doCall GetGroup p e m = own m (getId (p .group) p e)
-doCall SetGroup p e m = own m (setId withGroup (p .group) p e)
-doCall GetPrior p e m = own m (answered done (p .priority) 0 p)
-doCall SetPrior p e m = own m (setPrior p e)
-doCall GetProc p e m = own m (answered done (p .pid) 0 p)
+doCall (Own c) p e m = own m (ownCall c p e)
 doCall Lock p e m = doLock p e m
 doCall Unlock p e m = doUnlock p e m
-doCall Signal p e m = own m (setSignal p e)
 doCall Kill p e m = sendKill p e m
-doCall Sleep p e m = own m (doSleep p e)
-doCall Alarm p e m = own m (answered done 0 0 (withAlarm (e .d3) p))
-doCall Pause p e m = own m (answered nowAsleep 0 0 (asleepFor forSignal 0 p))
 doCall Exit p e m = doExit p m
 doCall FShell p e m = doFShell p e m
 

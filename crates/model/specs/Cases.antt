@@ -135,7 +135,6 @@ pub record Case : Type 0 where
 
 -- an event and its answer
 infix 70 _gets_
-
 abbrev pub _gets_ : Event → Answer → Event × Answer
 e gets a = (e, a)
 
@@ -193,142 +192,142 @@ table =
     ∷ storyThen (λ m. holds A m && holds B m) bothShared
     -- (e) then C unshared: asleep; (f) then D shared: asleep; (g) A and B unlock: C wakes, D does not
     ∷ storyThen (holds C)
-      (bothShared
-      ++ lock C unshared x gets sleeping
-      ∷ lock D shared x gets sleeping
-      ∷ unlock A x gets ok
-      ∷ unlock B x gets moves 0b1000 0
-      ∷ wakeReport D gets refusal asleep
-      ∷ [])
+    (bothShared
+    ++ lock C unshared x gets sleeping
+    ∷ lock D shared x gets sleeping
+    ∷ unlock A x gets ok
+    ∷ unlock B x gets moves 0b1000 0
+    ∷ wakeReport D gets refusal asleep
+    ∷ [])
     -- (h) deadlock; (i) B asks conditionally: locked
     ∷ story (crossed ++ lock B unshared x gets refusal deadlock ∷ lock B unsharedIf x gets refusal locked ∷ [])
     -- (j) priority -1 unprivileged: priv; 41: badcall. And one not negative: done
     ∷ story
-      (becomes A 100 gets ok
-      ∷ setPriority A (2 ^ 32 - 1) gets refusal priv
-      ∷ setPriority A 41 gets refusal badcall
-      ∷ setPriority A 7 gets ok
-      ∷ call 0x38 A 0 0 0 0 gets gives 7 0
-      ∷ [])
+    (becomes A 100 gets ok
+    ∷ setPriority A (2 ^ 32 - 1) gets refusal priv
+    ∷ setPriority A 41 gets refusal badcall
+    ∷ setPriority A 7 gets ok
+    ∷ call 0x38 A 0 0 0 0 gets gives 7 0
+    ∷ [])
     -- (k) signal 5 trapped, alarm and sleep both 1, one tick: woken by time, trap then pending
     ∷ story
-      (onAlarm A 0x1000 gets gives 0 1
-      ∷ alarm A 1 gets ok
-      ∷ sleep A 1 gets sleeping
-      ∷ tick gets moves 0b10 0
-      ∷ wakeReport A gets gives 0 3
-      ∷ call 0x3A A 0 0 0 0 gets refusal trap
-      ∷ takeTrap A gets gives 5 0x1000
-      ∷ takeTrap A gets ok
-      ∷ [])
+    (onAlarm A 0x1000 gets gives 0 1
+    ∷ alarm A 1 gets ok
+    ∷ sleep A 1 gets sleeping
+    ∷ tick gets moves 0b10 0
+    ∷ wakeReport A gets gives 0 3
+    ∷ call 0x3A A 0 0 0 0 gets refusal trap
+    ∷ takeTrap A gets gives 5 0x1000
+    ∷ takeTrap A gets ok
+    ∷ [])
     -- "AB" and "ABC" differ; "AB" and "AB" do not
     ∷ story (lock A unshared abc gets ok ∷ lock B unshared ab gets ok ∷ lock C unshared ab gets sleeping ∷ [])
     -- a new shared request waits behind an unshared waiter, and is refused where it is conditional
     ∷ story
-      (lock A shared x gets ok
-      ∷ lock B unshared x gets sleeping
-      ∷ lock C sharedIf x gets refusal locked
-      ∷ lock C shared x gets sleeping
-      ∷ unlock A x gets moves 0b100 0
-      ∷ [])
+    (lock A shared x gets ok
+    ∷ lock B unshared x gets sleeping
+    ∷ lock C sharedIf x gets refusal locked
+    ∷ lock C shared x gets sleeping
+    ∷ unlock A x gets moves 0b100 0
+    ∷ [])
     -- a child does not inherit its parent's trap: abort. It inherits ignore, and the masks decide where D1 has 1
     ∷ story
-      (onAlarm A 0x1000 gets gives 0 1
-      ∷ fshell A 0 0 gets gives 6 0
-      ∷ onAlarm 6 1 gets gives 0 0
-      ∷ call 0x40 6 0 7 0 0 gets gives 0 1
-      ∷ fshell A 0b10000 0b10000 gets gives 7 0
-      ∷ onAlarm 7 0 gets gives 0 1
-      ∷ [])
+    (onAlarm A 0x1000 gets gives 0 1
+    ∷ fshell A 0 0 gets gives 6 0
+    ∷ onAlarm 6 1 gets gives 0 0
+    ∷ call 0x40 6 0 7 0 0 gets gives 0 1
+    ∷ fshell A 0b10000 0b10000 gets gives 7 0
+    ∷ onAlarm 7 0 gets gives 0 1
+    ∷ [])
     -- a wait behind a waiting neighbour is no deadlock where no chain returns
     ∷ story
-      (lock C unshared x gets ok
-      ∷ lock A unshared x gets sleeping
-      ∷ lock B unshared y gets ok
-      ∷ lock B unshared x gets sleeping
-      ∷ unlock C x gets moves 0b10 0
-      ∷ unlock A x gets moves 0b100 0
-      ∷ [])
+    (lock C unshared x gets ok
+    ∷ lock A unshared x gets sleeping
+    ∷ lock B unshared y gets ok
+    ∷ lock B unshared x gets sleeping
+    ∷ unlock C x gets moves 0b10 0
+    ∷ unlock A x gets moves 0b100 0
+    ∷ [])
     -- the conditional forms of lock
     ∷ story
-      (lock A sharedIf x gets ok
-      ∷ lock B sharedIf x gets ok
-      ∷ lock C unsharedIf x gets refusal locked
-      ∷ lock C unsharedIf y gets ok
-      ∷ lock D sharedIf y gets refusal locked
-      ∷ lock D 4 y gets refusal badcall
-      ∷ lock A unsharedIf x gets refusal held
-      ∷ [])
+    (lock A sharedIf x gets ok
+    ∷ lock B sharedIf x gets ok
+    ∷ lock C unsharedIf x gets refusal locked
+    ∷ lock C unsharedIf y gets ok
+    ∷ lock D sharedIf y gets refusal locked
+    ∷ lock D 4 y gets refusal badcall
+    ∷ lock A unsharedIf x gets refusal held
+    ∷ [])
     -- a full table: held, locked, deadlock, lcktable, in this order
     ∷ story
-      (fills 1 29
-      ++ lock B unshared y gets ok
-      ∷ lock C unshared x gets ok
-      ∷ lock A unshared y gets sleeping
-      ∷ lock B sharedIf y gets refusal held
-      ∷ lock B sharedIf (1 ∷ []) gets refusal locked
-      ∷ lock B shared (1 ∷ []) gets refusal deadlock
-      ∷ lock B shared x gets refusal lcktable
-      ∷ lock B shared (40 ∷ []) gets refusal lcktable
-      ∷ [])
+    (fills 1 29
+    ++ lock B unshared y gets ok
+    ∷ lock C unshared x gets ok
+    ∷ lock A unshared y gets sleeping
+    ∷ lock B sharedIf y gets refusal held
+    ∷ lock B sharedIf (1 ∷ []) gets refusal locked
+    ∷ lock B shared (1 ∷ []) gets refusal deadlock
+    ∷ lock B shared x gets refusal lcktable
+    ∷ lock B shared (40 ∷ []) gets refusal lcktable
+    ∷ [])
     -- two alarms ring in one tick, the lower PID's holding the row: the other is granted first, and keeps its lock
     ∷ story
-      (onAlarm A 0 gets gives 0 1
-      ∷ onAlarm B 0x2000 gets gives 0 1
-      ∷ lock A unshared x gets ok
-      ∷ alarm A 1 gets ok
-      ∷ alarm B 1 gets ok
-      ∷ lock B unshared x gets sleeping
-      ∷ tick gets moves 0b100 0b10
-      ∷ wakeReport B gets gives 0 1
-      ∷ takeTrap B gets gives 5 0x2000
-      ∷ unlock B x gets ok
-      ∷ [])
+    (onAlarm A 0 gets gives 0 1
+    ∷ onAlarm B 0x2000 gets gives 0 1
+    ∷ lock A unshared x gets ok
+    ∷ alarm A 1 gets ok
+    ∷ alarm B 1 gets ok
+    ∷ lock B unshared x gets sleeping
+    ∷ tick gets moves 0b100 0b10
+    ∷ wakeReport B gets gives 0 1
+    ∷ takeTrap B gets gives 5 0x2000
+    ∷ unlock B x gets ok
+    ∷ [])
     -- the lower PID's waiting: the signal ends its wait first
     ∷ story
-      (onAlarm A 0x1000 gets gives 0 1
-      ∷ onAlarm B 0 gets gives 0 1
-      ∷ lock B unshared x gets ok
-      ∷ alarm A 1 gets ok
-      ∷ alarm B 1 gets ok
-      ∷ lock A unshared x gets sleeping
-      ∷ tick gets moves 0b10 0b100
-      ∷ wakeReport A gets gives 0 2
-      ∷ takeTrap A gets gives 5 0x1000
-      ∷ unlock A x gets refusal notlocked
-      ∷ [])
+    (onAlarm A 0x1000 gets gives 0 1
+    ∷ onAlarm B 0 gets gives 0 1
+    ∷ lock B unshared x gets ok
+    ∷ alarm A 1 gets ok
+    ∷ alarm B 1 gets ok
+    ∷ lock A unshared x gets sleeping
+    ∷ tick gets moves 0b10 0b100
+    ∷ wakeReport A gets gives 0 2
+    ∷ takeTrap A gets gives 5 0x1000
+    ∷ unlock A x gets refusal notlocked
+    ∷ [])
     -- the classes of call numbers, the indirect call, and the event kinds
     ∷ story
-      (call 0x45 A 0 0 0 0 gets refusal notmodelled
-      ∷ call 0x33 A 0 0 0 0 gets refusal notmodelled
-      ∷ call 0x0F A 0 0 0 0 gets refusal badcall
-      ∷ event 1 0x51 A 0x3A 0 0 0 0 gets gives A 0
-      ∷ event 1 0x51 A 0x51 0 0 0 0 gets refusal badcall
-      ∷ event 1 0x51 A 0x100 0 0 0 0 gets refusal badcall
-      ∷ event 1 0x51 A 0 0 0 0 0 gets refusal notmodelled
-      ∷ event 0 0x3A A 0 0 0 0 0 gets refusal badcall
-      ∷ event 5 0x3A 99 0 0 0 0 0 gets refusal badcall
-      ∷ [])
+    (call 0x45 A 0 0 0 0 gets refusal notmodelled
+    ∷ call 0x33 A 0 0 0 0 gets refusal notmodelled
+    ∷ call 0x0F A 0 0 0 0 gets refusal badcall
+    ∷ event 1 0x51 A 0x3A 0 0 0 0 gets gives A 0
+    ∷ event 1 0x51 A 0x51 0 0 0 0 gets refusal badcall
+    ∷ event 1 0x51 A 0x100 0 0 0 0 gets refusal badcall
+    ∷ event 1 0x51 A 0 0 0 0 0 gets refusal notmodelled
+    ∷ event 0 0x3A A 0 0 0 0 0 gets refusal badcall
+    ∷ event 5 0x3A 99 0 0 0 0 0 gets refusal badcall
+    ∷ [])
     -- callers and targets; a kill of oneself; a timed sleep that a signal cuts short; PIDs are not used again
     ∷ story
-      (call 0x3A 6 0 0 0 0 gets refusal badcaller
-      ∷ call 0x41 A 0 7 9 0 gets refusal noproc
-      ∷ becomes A 100 gets ok
-      ∷ call 0x41 A 0 7 B 0 gets refusal priv
-      ∷ call 0x40 B 0 7 0 0x3000 gets gives 0 1
-      ∷ sleep B 9 gets sleeping
-      ∷ tick gets ok
-      ∷ call 0x41 1 0 7 B 0 gets moves 0b100 0
-      ∷ wakeReport B gets gives 8 2
-      ∷ call 0x41 A 0 3 A 0 gets ending 0 0b10
-      ∷ call 0x46 1 0 0 0 0 gets refusal badcall
-      ∷ fshell 1 0 0 gets gives 6 0
-      ∷ [])
+    (call 0x3A 6 0 0 0 0 gets refusal badcaller
+    ∷ call 0x41 A 0 7 9 0 gets refusal noproc
+    ∷ becomes A 100 gets ok
+    ∷ call 0x41 A 0 7 B 0 gets refusal priv
+    ∷ call 0x40 B 0 7 0 0x3000 gets gives 0 1
+    ∷ sleep B 9 gets sleeping
+    ∷ tick gets ok
+    ∷ call 0x41 1 0 7 B 0 gets moves 0b100 0
+    ∷ wakeReport B gets gives 8 2
+    ∷ call 0x41 A 0 3 A 0 gets ending 0 0b10
+    ∷ call 0x46 1 0 0 0 0 gets refusal badcall
+    ∷ fshell 1 0 0 gets gives 6 0
+    ∷ [])
     -- sixteen live processes
     ∷ storyThen (λ m. eqb (length (m .procs)) 16)
-      (map (λ n. fshell 1 0 0 gets gives n 0) (6 ∷ 7 ∷ 8 ∷ 9 ∷ 10 ∷ 11 ∷ 12 ∷ 13 ∷ 14 ∷ 15 ∷ 16 ∷ [])
-      ++ fshell 1 0 0 gets refusal nomemory
-      ∷ [])
+    (map (λ n. fshell 1 0 0 gets gives n 0) (6 ∷ 7 ∷ 8 ∷ 9 ∷ 10 ∷ 11 ∷ 12 ∷ 13 ∷ 14 ∷ 15 ∷ 16 ∷ [])
+    ++ fshell 1 0 0 gets refusal nomemory
+    ∷ [])
     -- a state that is not sound: no process
     ∷ record {
       from = record { procs = replicate 16 noProcess; live = 0; table = laid fresh .table; next = 2 };

@@ -5,4 +5,5 @@ pub mod Clock
 pub mod Calls
 pub mod Sound
 pub mod Step
+pub mod Promises
 pub mod Cases

@@ -1,12 +1,10 @@
 -- One event. Assumes nothing.
 use Prim.Native.Nat.{ℕ}
-use mathlib.Core.Path.{_≡_}
-use mathlib.Core.Bool.{Bool, true, false, not, _&&_}
+use mathlib.Core.Bool.{true, false, not, _&&_}
 use lib.Dec.{eqb}
 use Rattle.locks.specs.Lists.{mask, between, isZero}
-use Rattle.locks.specs.Chains.{RingFree}
-use Rattle.model.specs.State.{Machine, view, laid, fresh, lives, processOf, sleeps}
-use Rattle.model.specs.Outcome.{Kind, kindOf, done, Refusal, refusal, badstate, badcaller, asleep, trap, badcall, Outcome, refused, answered, when, either, own}
+use Rattle.model.specs.State.{Machine, view, laid, lives, processOf, sleeps}
+use Rattle.model.specs.Outcome.{kindOf, done, refusal, badstate, badcaller, asleep, trap, badcall, Outcome, refused, answered, when, either, own}
 use Rattle.model.specs.Signals.{taken}
 use Rattle.model.specs.Clock.{ticked}
 use Rattle.model.specs.Calls.{called}
@@ -14,7 +12,6 @@ use Rattle.model.specs.Sound.{sound}
 use Rattle.model.specs.declared.state.Process.{Process}
 use Rattle.model.specs.declared.state.State.{State}
 use Rattle.model.specs.declared.state.Event.{Event}
-use Rattle.model.specs.declared.state.Answer.{Answer}
 use Rattle.model.specs.declared.state.Stepped.{Stepped}
 
 -- "A0: 0 never, 1 granted, 2 signal, 3 time. D3: the seconds that were left .. A report clears nothing."

@@ -1,0 +1,5 @@
+pub mod Tests
+pub mod Lists
+pub mod Fewer
+pub mod Chains
+pub mod Rings

@@ -1,0 +1,51 @@
+-- Laws of the tests over lists. Assumes nothing.
+use Prim.Native.Nat.{ℕ, zero, suc, _<_, suc-le-suc, zero-le}
+use native.Mathlib.Nat.{le-of-suc-le-suc, not-suc-le-zero}
+use mathlib.Core.Path.{_≡_, refl, sym, _∙_}
+use mathlib.Core.Bool.{Bool, true, _||_, false≢true, or-false, or-assoc}
+use mathlib.Core.List.{List, [], _∷_, _++_, map}
+use lib.ListN.{length, getD}
+use Rattle.locks.specs.Lists.{any, all}
+use Rattle.locks.proofs.Tests.{and-join, and-map, or-left, or-right, or-elim, or-map}
+
+module _ {A : Type 0} where
+  -- an element that passes, by its place
+  pub record Some (f : A → Bool) (xs : List A) (d : A) : Type 0 where
+    pub at : ℕ
+    pub inside : at < length xs
+    pub passes : f (getD xs at d) ≡ true
+
+  pub any-some : (f : A → Bool) (xs : List A) (d : A) → any f xs ≡ true → Some f xs d
+  any-some f [] d h = absurd (false≢true h)
+  any-some f (x ∷ xs) d h =
+      or-elim (f x) (any f xs) (λ e. record { at = 0; inside = suc-le-suc zero-le; passes = e })
+      (λ e. let s = any-some f xs d e in record { at = suc (s .at); inside = suc-le-suc (s .inside); passes = s .passes }) h
+
+  pub some-any : (f : A → Bool) (xs : List A) (d : A) (i : ℕ) → i < length xs → f (getD xs i d) ≡ true → any f xs ≡ true
+  some-any f [] d i l h = absurd (not-suc-le-zero l)
+  some-any f (x ∷ xs) d zero l h = or-left (f x) (any f xs) h
+  some-any f (x ∷ xs) d (suc i) l h = or-right (f x) (any f xs) (some-any f xs d i (le-of-suc-le-suc l) h)
+
+  pub any-append : (f : A → Bool) (xs ys : List A) → any f (xs ++ ys) ≡ (any f xs || any f ys)
+  any-append f [] ys = refl
+  any-append f (x ∷ xs) ys = rw (any-append f xs ys) (sym (or-assoc (f x) (any f xs) (any f ys)))
+
+  pub any-end : (f : A → Bool) (xs : List A) (x : A) → any f (xs ++ x ∷ []) ≡ (any f xs || f x)
+  any-end f xs x = any-append f xs (x ∷ []) ∙ rw or-false
+
+  pub any-map : (f g : A → Bool) → ((x : A) → f x ≡ true → g x ≡ true) → (xs : List A) → any f xs ≡ true → any g xs ≡ true
+  any-map f g i [] h = h
+  any-map f g i (x ∷ xs) h = or-map (f x) (any f xs) (g x) (any g xs) (i x) (any-map f g i xs) h
+
+  pub all-map : (f g : A → Bool) → ((x : A) → f x ≡ true → g x ≡ true) → (xs : List A) → all f xs ≡ true → all g xs ≡ true
+  all-map f g i [] h = refl
+  all-map f g i (x ∷ xs) h = and-map (f x) (all f xs) (g x) (all g xs) (i x) (all-map f g i xs) h
+
+  pub all-end : (f : A → Bool) (xs : List A) (x : A) → all f xs ≡ true → f x ≡ true → all f (xs ++ x ∷ []) ≡ true
+  all-end f [] x h k = and-join (f x) true k refl
+  all-end f (y ∷ xs) x h k = and-map (f y) (all f xs) (f y) (all f (xs ++ x ∷ [])) (λ e. e) (λ e. all-end f xs x e k) h
+
+  -- a test over the elements changed by g
+  pub all-of-map : {B : Type 0} (f : A → Bool) (g : B → A) (h : B → Bool) → ((x : B) → h x ≡ true → f (g x) ≡ true) → (xs : List B) → all h xs ≡ true → all f (map g xs) ≡ true
+  all-of-map f g h i [] k = refl
+  all-of-map f g h i (x ∷ xs) k = and-map (h x) (all h xs) (f (g x)) (all f (map g xs)) (i x) (all-of-map f g h i xs) k
