@@ -1,18 +1,18 @@
 -- The chain as a test and as a relation are one. Assumes nothing.
-use Prim.Native.Nat.{ℕ, zero, suc, _<_}
+use Prim.Native.Nat.{ℕ, zero, suc, _+_, _<_}
 use native.Mathlib.Nat.{le-of-suc-le-suc, not-suc-le-zero}
 use native.Mathlib.Omega.{arith}
 use mathlib.Core.Path.{_≡_, refl, sym, subst}
 use mathlib.Core.Bool.{Bool, true, _&&_, _||_, false≢true}
 use mathlib.Core.Logic.{_⊎_, inl, inr}
-use mathlib.Core.List.{List, [], _∷_, _++_, map, append-assoc, append-nil}
+use mathlib.Core.List.{List, [], _∷_, _++_, map, append-assoc, append-nil, cons≢nil}
 use lib.Dec.{eqb}
 use lib.ListN.{length, getD, take, length-append, List·getD-append}
 use lib.Seq.{getD-append-seam, getD-take, length-take-le}
-use borrow.Author.Tests.{eqb-true, eq-eqb}
-use Rattle.locks.specs.Lists.{any, keep}
-use Rattle.locks.specs.Rows.{noRow, owns, conflict}
-use Rattle.locks.specs.Chains.{Link, Chain, one, more, links, chained, leadsBack, DeadlockExact}
+use borrow.Author.Tests.{eqb-true, eqb-false, eq-eqb}
+use Rattle.locks.specs.Lists.{any, keep, sift}
+use Rattle.locks.specs.Rows.{noRow, owns, conflict, waits, waitsOf, waitingOf}
+use Rattle.locks.specs.Chains.{Link, Chain, one, more, links, chained, leadsBack, DeadlockExact, FromNewRow}
 use Rattle.locks.specs.declared.rows.Row.{Row}
 use Rattle.locks.proofs.Tests.{cases, and-split, and-join, or-left, or-right, or-elim}
 use Rattle.locks.proofs.Lists.{any-append, any-some, some-any}
@@ -169,3 +169,30 @@ deadlock-exact rows r = (
   chained-chain (rows ++ r ∷ []) (links [] (rows ++ r ∷ [])) (to-link (rows ++ r ∷ [])) (r .owner) (r .owner),
   chain-chained (rows ++ r ∷ []) (r .owner) (r .owner),
 )
+
+-- ---- the first link
+
+sift-some : (f : List Row → Row → Bool) (ahead rows : List Row) (i : ℕ) → i < length rows → f (ahead ++ take i rows) (getD rows i noRow) ≡ true → sift f ahead rows ≡ [] → ⊥
+sift-some f ahead [] i l h e = not-suc-le-zero l
+sift-some f ahead (r ∷ rows) zero l h e = let k = rw append-nil at h in cons≢nil (rw k at e)
+sift-some f ahead (r ∷ rows) (suc i) l h e =
+    cases (f ahead r) (λ k. cons≢nil (rw k at e)) (λ k. sift-some f (ahead ++ r ∷ []) rows i (le-of-suc-le-suc l) (rw append-assoc h) (rw k at e))
+
+pub from-new-row : FromNewRow
+unfolding waitingOf waitsOf waits
+from-new-row rows r none b l =
+    cases (eqb (l .row) (length rows)) (eqb-true (l .row) (length rows))
+    (λ e.
+    let d : l .row ≡ length rows → ⊥ = eqb-false (l .row) (length rows) e in
+    let s : l .row < length rows + 1 = rw length-append at (l .stands) in
+    let i : l .row < length rows = omega arith in
+    let a = l .ahead in
+    let j : l .other < length rows = omega arith in
+    let f : getD rows (l .row) noRow .owner ≡ r .owner = rw List·getD-append at (l .from) in
+    let c : conflict (getD rows (l .row) noRow) (getD rows (l .other) noRow) ≡ true = rw (List·getD-append, List·getD-append) at (l .conflicts) in
+    absurd
+    (sift-some (waitsOf (r .owner)) [] rows (l .row) i
+    (and-join _ _ (eq-eqb _ _ f)
+    (some-any (conflict (getD rows (l .row) noRow)) (take (l .row) rows) noRow (l .other)
+    (rw (length-take-le (l .row) rows (omega arith)) a) (rw (getD-take, a) c)))
+    none))

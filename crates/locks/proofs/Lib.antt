@@ -3,3 +3,4 @@ pub mod Lists
 pub mod Fewer
 pub mod Chains
 pub mod Rings
+pub mod Cases

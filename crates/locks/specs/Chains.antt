@@ -7,7 +7,7 @@ use mathlib.Core.List.{List, [], _∷_, _++_, map}
 use lib.Dec.{eqb}
 use lib.ListN.{length, getD}
 use Rattle.locks.specs.Lists.{keep}
-use Rattle.locks.specs.Rows.{noRow, conflict}
+use Rattle.locks.specs.Rows.{noRow, conflict, waitingOf}
 use Rattle.locks.specs.declared.rows.Row.{Row}
 
 -- "A waiting row leads to the owners of the conflicting rows ahead; an owner leads to its own waiting row, if any. One link goes from an owner to the next owner."
@@ -48,3 +48,7 @@ leadsBack rows r = chained (links [] (rows ++ r ∷ [])) (r .owner) (r .owner)
 -- "Deadlock is given exactly when a chain leads from the new row back to its caller."
 abbrev pub DeadlockExact : Type 0
 DeadlockExact = (rows : List Row) (r : Row) → (leadsBack rows r ≡ true) ↔ Chain (rows ++ r ∷ []) (r .owner) (r .owner)
+
+-- The caller is awake, so it has no other waiting row: a chain from the caller begins with the new row.
+abbrev pub FromNewRow : Type 0
+FromNewRow = (rows : List Row) (r : Row) → waitingOf (r .owner) rows ≡ [] → (b : ℕ) (l : Link (rows ++ r ∷ []) (r .owner) b) → l .row ≡ length rows

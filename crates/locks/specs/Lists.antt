@@ -37,7 +37,7 @@ module _ {A : Type 0} where
   mask f (x ∷ xs) = cond (f x) 1 0 + 2 * mask f xs
 
   -- n places, z in the unused ones
-  abbrev pub padded : ℕ → A → List A → List A
+  unfoldable pub padded : ℕ → A → List A → List A
   padded n z xs = xs ++ replicate (n - length xs) z
 
 -- n stands in the list

@@ -2,7 +2,7 @@
 use mathlib.Core.Bool.{Bool, true}
 use mathlib.Core.Path.{refl}
 use lib.Count.{trailingZeros}
-use Rattle.locks.specs.Lists.{agree}
+use Rattle.locks.specs.Lists.{padded, agree}
 use Rattle.locks.specs.Rows.{noRow, rowsOf, laidRows, sameSequence, conflict, waits, twin, hasTwin, waitsOf, waitingOf, withoutTwin, withoutOwner, withoutWaiting, zeroRow, soundRow, apart}
 use Rattle.locks.specs.Chains.{links, chained, leadsBack}
 use Rattle.model.specs.State.{newProcess, noProcess, view, laid, fresh, lives, firstOf, processOf, inPlace, put, each, granted, rowsLeft}
@@ -16,7 +16,7 @@ use Rattle.model.specs.Cases.{table, WorkedCases}
 -- `unfolding opened` opens every rule, so that an event computes
 unfoldable pub opened : Bool
 unfolding
-    agree noRow rowsOf laidRows sameSequence conflict waits twin hasTwin waitsOf waitingOf withoutTwin withoutOwner withoutWaiting zeroRow soundRow apart links chained leadsBack
+    padded agree noRow rowsOf laidRows sameSequence conflict waits twin hasTwin waitsOf waitingOf withoutTwin withoutOwner withoutWaiting zeroRow soundRow apart links chained leadsBack
     newProcess noProcess view laid fresh lives firstOf processOf inPlace put each granted rowsLeft
     gone ends roused trapped reacts arrives takes taken trailingZeros slept rings alarms ticked
     modelled listed classAmong classOf idOf withId getId newIds setId inPriority setPrior setSignal sendKill childReaction childReactions child born doFShell doExit doSleep rowOf appended queued lockRow doLock unlockRow doUnlock ownCall doCall ofClass called

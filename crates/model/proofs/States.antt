@@ -8,7 +8,7 @@ use mathlib.Core.List.{List, [], _∷_}
 use lib.ListN.{length, take, replicate, length-take, length-map}
 use lib.Seq.{take-append-seam, drop-append-seam}
 use borrow.Author.Tests.{leb-true, le-leb}
-use Rattle.locks.specs.Lists.{all}
+use Rattle.locks.specs.Lists.{all, padded}
 use Rattle.locks.specs.Rows.{noRow, rowsOf, laidRows, zeroRow}
 use Rattle.locks.specs.Chains.{Link, Chain, one, more, RingFree}
 use Rattle.locks.proofs.Tests.{and-join}
@@ -27,7 +27,7 @@ use Rattle.model.proofs.Stays.{stays}
 use Rattle.model.proofs.Rings.{Free, free-stays}
 
 pub view-laid : (m : Machine) → view (laid m) ≡ m
-unfolding view laid rowsOf laidRows
+unfolding view laid rowsOf laidRows padded
 view-laid m =
     λ i. record {
       procs = take-append-seam (m .procs) (replicate (16 - length (m .procs)) noProcess) i;
@@ -78,7 +78,7 @@ unfolding soundMachine
 ok-machine m o = simp and-eq-true-iff (((o .frame .fit, o .frame .rows-sound), o .frame .rows-apart), o .procs)
 
 sound-laid : (m : Machine) → Ok m → sound (laid m) ≡ true
-unfolding sound laid laidRows
+unfolding sound laid laidRows padded
 sound-laid m o =
     let few : length (m .procs) ≤ 16 = rw length-map at (o .frame .few) in
     simp and-eq-true-iff (

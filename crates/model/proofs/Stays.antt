@@ -8,7 +8,7 @@ use lib.ListN.{length, length-map, take, drop, replicate}
 use lib.Count.{trailingZeros}
 use lib.Dec.{eqb, leb, ltb}
 use borrow.Author.Tests.{eqb-true, eqb-false, leb-true, le-leb, not-false}
-use Rattle.locks.specs.Lists.{all, member, between, isZero}
+use Rattle.locks.specs.Lists.{all, member, between, isZero, padded}
 use Rattle.locks.specs.Rows.{withoutTwin, soundRow}
 use Rattle.locks.specs.declared.rows.Row.{Row}
 use Rattle.locks.proofs.Tests.{and-split, and-join, or-left, or-off}
@@ -107,7 +107,7 @@ zeros-after (suc d) k [] = drop-zeros (suc d) k
 zeros-after (suc d) k (x ∷ s) = zeros-after d k s
 
 row-sound : (p : Process) (e : Event) (b : Bool) (live : List ℕ) → member (p .pid) live ≡ true → between 1 16 (e .d3) ≡ true → soundRow live (rowOf p e b) ≡ true
-unfolding soundRow rowOf
+unfolding soundRow rowOf padded
 row-sound p e b live l h = and-join _ _ (and-join (between 1 16 (e .d3)) _ h l) (zeros-after (e .d3) (16 - length (take (e .d3) (e .seq))) (e .seq))
 
 pub row-owner : (p : Process) (e : Event) (b : Bool) → rowOf p e b .owner ≡ p .pid

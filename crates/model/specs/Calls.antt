@@ -116,7 +116,7 @@ childReaction d1 d2 i a = cond (bit i d1) (cond (bit i d2) ignore abort) (cond (
 -- the reactions of the child from place i on, "Kill is always abort"
 unfoldable pub childReactions : ℕ → ℕ → ℕ → List ℕ → List ℕ
 childReactions d1 d2 i [] = []
-childReactions d1 d2 i (a ∷ as′) = cond (eqb i 2) abort (childReaction d1 d2 i a) ∷ childReactions d1 d2 (suc i) as′
+childReactions d1 d2 i (a ∷ rest) = cond (eqb i 2) abort (childReaction d1 d2 i a) ∷ childReactions d1 d2 (suc i) rest
 
 -- "The child has the parent's ids and priority; the rest of it is as in a fresh process"
 unfoldable pub child : Process → Event → ℕ → Process
@@ -192,6 +192,7 @@ doUnlock p e m = when (badSequence e) badcall (unlockRow (rowOf p e false) m)
 
 -- ---- the call of a live process that is awake and has no trap pending
 
+-- those that touch their caller alone
 unfoldable pub ownCall : OwnCall → Process → Event → Outcome Process
 ownCall GetUser p e = getId (p .user) p e
 ownCall SetUser p e = setId withUser (p .user) p e

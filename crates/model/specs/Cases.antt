@@ -209,7 +209,7 @@ table =
     ∷ setPriority A 7 gets ok
     ∷ call 0x38 A 0 0 0 0 gets gives 7 0
     ∷ [])
-    -- (k) signal 5 trapped, alarm and sleep both 1, one tick: woken by time, trap then pending
+    -- (k) signal 5 trapped, alarm and sleep both 1, one tick: woken by time, trap then pending. The reaction has become ignore
     ∷ story
     (onAlarm A 0x1000 gets gives 0 1
     ∷ alarm A 1 gets ok
@@ -219,6 +219,7 @@ table =
     ∷ call 0x3A A 0 0 0 0 gets refusal trap
     ∷ takeTrap A gets gives 5 0x1000
     ∷ takeTrap A gets ok
+    ∷ onAlarm A 0 gets gives 0 1
     ∷ [])
     -- "AB" and "ABC" differ; "AB" and "AB" do not
     ∷ story (lock A unshared abc gets ok ∷ lock B unshared ab gets ok ∷ lock C unshared ab gets sleeping ∷ [])
@@ -323,6 +324,37 @@ table =
     ∷ call 0x46 1 0 0 0 0 gets refusal badcall
     ∷ fshell 1 0 0 gets gives 6 0
     ∷ [])
+    -- an exit takes all rows of the process, and the next of each sequence wakes
+    ∷ story
+    (lock A unshared x gets ok
+    ∷ lock A unshared y gets ok
+    ∷ lock B unshared x gets sleeping
+    ∷ lock C shared y gets sleeping
+    ∷ call 0x46 A 0 0 0 0 gets ending 0b1100 0b10
+    ∷ [])
+    -- who may signal: equal effective user ids. Two traps pending: the lowest is taken first
+    ∷ story
+    (becomes A 100 gets ok
+    ∷ becomes B 100 gets ok
+    ∷ call 0x40 B 0 2 0 0x2000 gets gives 0 1
+    ∷ call 0x40 B 0 7 0 0x7000 gets gives 0 1
+    ∷ call 0x41 A 0 7 B 0 gets ok
+    ∷ call 0x41 A 0 2 B 0 gets ok
+    ∷ takeTrap B gets gives 2 0x2000
+    ∷ takeTrap B gets gives 7 0x7000
+    ∷ takeTrap B gets ok
+    ∷ [])
+    -- a sleeper is killed; another wakes and ends in the same event
+    ∷ story
+    (sleep B 9 gets sleeping
+    ∷ call 0x41 1 0 3 B 0 gets moves 0 0b100
+    ∷ onAlarm A 0 gets gives 0 1
+    ∷ alarm A 1 gets ok
+    ∷ sleep A 1 gets sleeping
+    ∷ tick gets moves 0 0b10
+    ∷ [])
+    -- an alarm that rings into an ignored signal is off afterwards
+    ∷ story (alarm A 1 gets ok ∷ tick gets ok ∷ onAlarm A 0 gets gives 0 1 ∷ tick gets ok ∷ alarm A 1 gets ok ∷ tick gets moves 0 0b10 ∷ [])
     -- sixteen live processes
     ∷ storyThen (λ m. eqb (length (m .procs)) 16)
     (map (λ n. fshell 1 0 0 gets gives n 0) (6 ∷ 7 ∷ 8 ∷ 9 ∷ 10 ∷ 11 ∷ 12 ∷ 13 ∷ 14 ∷ 15 ∷ 16 ∷ [])

@@ -80,7 +80,9 @@ lockFits rows pid sleep = eqb (length (waitingOf pid rows)) (cond (eqb sleep for
 unfoldable pub soundProcess : List Row → Process → Bool
 soundProcess rows p =
     sleepFits (p .rest .sleep) (p .rest .seconds) && wakeFits (p .rest .wake) (p .rest .left)
-    && quiet (p .rest .sleep) (p .signals .pending) && trapsFit (p .signals .pending) (p .signals .traps) && inPriority (p .priority) && reactionsFit (p .pid) (p .signals .reactions) && lockFits rows (p .pid) (p .rest .sleep)
+    && quiet (p .rest .sleep) (p .signals .pending) && trapsFit (p .signals .pending) (p .signals .traps)
+    && inPriority (p .priority) && reactionsFit (p .pid) (p .signals .reactions)
+    && lockFits rows (p .pid) (p .rest .sleep)
 
 -- ---- the state
 
