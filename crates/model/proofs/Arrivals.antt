@@ -11,7 +11,7 @@ use borrow.Author.Tests.{eqb-true, eq-eqb, eqb-false, ne-eqb, leb-true, le-leb, 
 use Rattle.locks.specs.Lists.{sift, isZero}
 use Rattle.locks.specs.Rows.{waitsOf, waitingOf, withoutWaiting}
 use Rattle.locks.specs.declared.rows.Row.{Row}
-use Rattle.locks.proofs.Tests.{cases, picked, or-left}
+use Rattle.locks.proofs.Tests.{cases, picked, off, or-left}
 use Rattle.locks.proofs.Lists.{all-map, all-of-map}
 use Rattle.locks.proofs.Fewer.{Fewer, nil, fewer-refl, fewer-sift, fewer-end, fewer-end-gone, still-waits}
 use Rattle.model.specs.State.{Machine, abort, ignore, forLock, forTime, bySignal, byTime, noProcess, newProcess, pids, sleeps, reactionTo, withSignals, withAlarm, lives, processOf, inPlace, put, each, granted, rowsLeft}
@@ -33,7 +33,7 @@ none-left n cs bs [] t = refl
 none-left n cs bs (r ∷ rows) t =
     cases (waitsOf n bs r) (λ e. rw e (none-left n cs (bs ++ r ∷ []) rows (fewer-end-gone r t)))
     (λ e.
-    let f : waitsOf n cs r ≡ false = Rattle.locks.proofs.Tests.off (waitsOf n cs r) (λ h. true≢false (sym (still-waits n r t h) ∙ e)) in
+    let f : waitsOf n cs r ≡ false = off (waitsOf n cs r) (λ h. true≢false (sym (still-waits n r t h) ∙ e)) in
     rw (e, f) (none-left n (cs ++ r ∷ []) (bs ++ r ∷ []) rows (fewer-end r t)))
 
 pub none-waiting : (n : ℕ) (rows : List Row) → lockFits (withoutWaiting n rows) n 0 ≡ true
@@ -56,11 +56,7 @@ by-signal : (n : ℕ) → wakeFits bySignal n ≡ true
 unfolding wakeFits
 by-signal n = refl
 
-pub roused-pid : (p : Process) → roused p .pid ≡ p .pid
-unfolding roused
-roused-pid p = picked (λ (q : Process). q .pid ≡ p .pid) (sleeps p) (λ _. refl) (λ _. refl)
-
-pub roused-awake : (p : Process) → roused p .rest .sleep ≡ 0
+roused-awake : (p : Process) → roused p .rest .sleep ≡ 0
 unfolding roused
 roused-awake p = picked (λ (q : Process). q .rest .sleep ≡ 0) (sleeps p) (λ _. refl) (λ e. eqb-true (p .rest .sleep) 0 (not-false _ e))
 

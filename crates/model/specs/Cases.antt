@@ -1,15 +1,17 @@
--- The worked cases of document 01, and the slips that it warns of, as one table. Assumes nothing.
+-- The worked cases (a) to (k) of document 01, the slips (s1) to (s4) that it warns of, and more (t1) to (t14), as one table. Assumes nothing.
 use Prim.Native.Nat.{ℕ, suc, zero, _+_, _-_, _^_}
 use mathlib.Core.Path.{_≡_}
 use mathlib.Core.Bool.{Bool, true, false, _&&_}
 use mathlib.Core.List.{List, [], _∷_, _++_, map}
-use lib.ListN.{length, replicate}
+use lib.ListN.{length, replicate, set}
 use lib.Dec.{eqb}
 use Rattle.locks.specs.Lists.{keep, padded, isZero}
 use Rattle.locks.specs.Rows.{owns, waitingOf}
-use Rattle.model.specs.State.{Machine, view, laid, fresh, noProcess}
+use Rattle.locks.specs.declared.rows.Row.{Row}
+use Rattle.model.specs.State.{Machine, view, laid, fresh, abort, ignore, awake, forSignal, forLock, forTime, never, byTime, noIds, newProcess, withPriority, withSignals, withRest, processOf}
 use Rattle.model.specs.Outcome.{refusal, badstate, badcaller, asleep, trap, badcall, notmodelled, priv, noproc, nomemory, held, locked, deadlock, lcktable, notlocked}
 use Rattle.model.specs.Step.{stepOf}
+use Rattle.model.specs.declared.state.Process.{Process}
 use Rattle.model.specs.declared.state.State.{State}
 use Rattle.model.specs.declared.state.Event.{Event}
 use Rattle.model.specs.declared.state.Answer.{Answer}
@@ -180,6 +182,83 @@ bothShared = lock A shared x gets ok ∷ lock B shared x gets ok ∷ []
 abbrev crossed : List (Event × Answer)
 crossed = lock A unshared x gets ok ∷ lock B unshared y gets ok ∷ lock A unshared y gets sleeping ∷ []
 
+-- ---- states that are sound but for one fact
+
+-- process 2, asleep for nothing
+abbrev other : Process
+other = newProcess 2 noIds noIds 0 (replicate 7 abort)
+
+-- process 1 and this one
+abbrev two : Process → List Row → ℕ → State
+two p rows next = laid (record { procs = processOf fresh 1 ∷ p ∷ []; rows = rows; next = next })
+
+-- a row of process 2, or of another, for the first n bytes
+abbrev rowOfLength : ℕ → ℕ → List ℕ → Row
+rowOfLength owner n s = record { owner = owner; shared = false; len = n; bytes = padded 16 0 s }
+
+abbrev holding : List ℕ → List Row
+holding s = rowOfLength 2 (length s) s ∷ []
+
+-- kind, seconds, last wake, seconds left
+abbrev resting : ℕ → ℕ → ℕ → ℕ → Process
+resting sleep seconds wake left = withRest (record { sleep = sleep; seconds = seconds; wake = wake; left = left }) other
+
+abbrev signalled : List ℕ → ℕ → List ℕ → Process → Process
+signalled reactions pending traps p = withSignals (record { reactions = reactions; pending = pending; traps = traps }) p
+
+-- another count of processes, or of rows
+abbrev counting : ℕ → ℕ → State
+counting live used =
+    record { procs = laid fresh .procs; live = live; table = record { rows = laid fresh .table .rows; used = used }; next = 2 }
+
+abbrev broken : List State
+broken =
+    -- counts of processes and rows, and lengths of sequences
+    counting 0 0
+    ∷ counting 17 0
+    ∷ counting 1 33
+    ∷ two other (rowOfLength 2 0 [] ∷ []) 3
+    ∷ two other (rowOfLength 2 17 sixteen ∷ []) 3
+    -- PIDs
+    ∷ two (newProcess 1 noIds noIds 0 (processOf fresh 1 .signals .reactions)) [] 3
+    ∷ two other [] 2
+    ∷ two other [] 65537
+    ∷ laid (record { procs = other ∷ []; rows = []; next = 3 })
+    -- a live owner, zeros after the length, and one row for a sequence
+    ∷ two other (rowOfLength 3 1 x ∷ []) 4
+    ∷ two other (rowOfLength 2 1 ab ∷ []) 3
+    ∷ two other (rowOfLength 2 1 x ∷ rowOfLength 2 1 x ∷ []) 3
+    -- asleep for a lock exactly with one row not held
+    ∷ two (resting forLock 0 never 0) (holding x) 3
+    ∷ two other (rowOfLength 1 1 x ∷ rowOfLength 2 1 x ∷ []) 3
+    ∷ two (resting forLock 0 never 0) (rowOfLength 1 1 x ∷ rowOfLength 2 1 x ∷ rowOfLength 1 1 y ∷ rowOfLength 2 1 y ∷ []) 3
+    -- a second left at least; no trap pending
+    ∷ two (resting forTime 0 never 0) [] 3
+    ∷ two (signalled (replicate 7 abort) 1 (0x1000 ∷ replicate 6 0) (resting forSignal 0 never 0)) [] 3
+    -- pending traps and their addresses
+    ∷ two (signalled (replicate 7 abort) 0b100 (replicate 7 0) other) [] 3
+    ∷ two (signalled (replicate 7 abort) 0b10000000 (replicate 7 0) other) [] 3
+    ∷ two (signalled (replicate 7 abort) 0 (0x1000 ∷ replicate 6 0) other) [] 3
+    -- sleep kinds, wake reasons, and their unused seconds
+    ∷ two (resting 4 0 never 0) [] 3
+    ∷ two (resting awake 0 4 0) [] 3
+    ∷ two (resting awake 1 never 0) [] 3
+    ∷ two (resting awake 0 byTime 1) [] 3
+    -- priorities
+    ∷ two (withPriority 41 other) [] 3
+    ∷ two (withPriority (2 ^ 32 - 41) other) [] 3
+    -- kill's reaction, and process 1's others
+    ∷ two (signalled (abort ∷ abort ∷ ignore ∷ replicate 4 abort) 0 (replicate 7 0) other) [] 3
+    ∷ laid (record { procs = newProcess 1 noIds noIds 0 (replicate 7 abort) ∷ []; rows = []; next = 2 })
+    -- unused places
+    ∷ record { procs = set (laid fresh .procs) 9 other; live = 1; table = laid fresh .table; next = 2 }
+    ∷ record { procs = laid fresh .procs; live = 1; table = record { rows = set (laid fresh .table .rows) 9 (rowOfLength 1 1 x); used = 0 }; next = 2 }
+    ∷ []
+
+-- one tick from this state
+abbrev from : State → Answer → Case
+from s a = record { from = s; told = tick gets a ∷ []; leaves = λ m. true }
+
 unfoldable pub table : List Case
 table =
     -- (a) lock length 0: badcall
@@ -205,6 +284,8 @@ table =
     ∷ story
     (becomes A 100 gets ok
     ∷ setPriority A (2 ^ 32 - 1) gets refusal priv
+    ∷ setPriority A (2 ^ 32 - 40) gets refusal priv
+    ∷ setPriority A (2 ^ 32 - 41) gets refusal badcall
     ∷ setPriority A 41 gets refusal badcall
     ∷ setPriority A 7 gets ok
     ∷ call 0x38 A 0 0 0 0 gets gives 7 0
@@ -221,9 +302,9 @@ table =
     ∷ takeTrap A gets ok
     ∷ onAlarm A 0 gets gives 0 1
     ∷ [])
-    -- "AB" and "ABC" differ; "AB" and "AB" do not
+    -- (s1) "AB" and "ABC" differ; "AB" and "AB" do not
     ∷ story (lock A unshared abc gets ok ∷ lock B unshared ab gets ok ∷ lock C unshared ab gets sleeping ∷ [])
-    -- a new shared request waits behind an unshared waiter, and is refused where it is conditional
+    -- (s2) a new shared request waits behind an unshared waiter, and is refused where it is conditional
     ∷ story
     (lock A shared x gets ok
     ∷ lock B unshared x gets sleeping
@@ -231,7 +312,7 @@ table =
     ∷ lock C shared x gets sleeping
     ∷ unlock A x gets moves 0b100 0
     ∷ [])
-    -- a child does not inherit its parent's trap: abort. It inherits ignore, and the masks decide where D1 has 1
+    -- (s3) a child does not inherit its parent's trap: abort. It inherits ignore, and the masks decide where D1 has 1
     ∷ story
     (onAlarm A 0x1000 gets gives 0 1
     ∷ fshell A 0 0 gets gives 6 0
@@ -240,7 +321,7 @@ table =
     ∷ fshell A 0b10000 0b10000 gets gives 7 0
     ∷ onAlarm 7 0 gets gives 0 1
     ∷ [])
-    -- a wait behind a waiting neighbour is no deadlock where no chain returns
+    -- (s4) a wait behind a waiting neighbour is no deadlock where no chain returns
     ∷ story
     (lock C unshared x gets ok
     ∷ lock A unshared x gets sleeping
@@ -249,7 +330,7 @@ table =
     ∷ unlock C x gets moves 0b10 0
     ∷ unlock A x gets moves 0b100 0
     ∷ [])
-    -- the conditional forms of lock
+    -- (t1) the conditional forms of lock
     ∷ story
     (lock A sharedIf x gets ok
     ∷ lock B sharedIf x gets ok
@@ -259,7 +340,7 @@ table =
     ∷ lock D 4 y gets refusal badcall
     ∷ lock A unsharedIf x gets refusal held
     ∷ [])
-    -- a full table: held, locked, deadlock, lcktable, in this order
+    -- (t2) a full table: held, locked, deadlock, lcktable, in this order
     ∷ story
     (fills 1 29
     ++ lock B unshared y gets ok
@@ -271,7 +352,7 @@ table =
     ∷ lock B shared x gets refusal lcktable
     ∷ lock B shared (40 ∷ []) gets refusal lcktable
     ∷ [])
-    -- two alarms ring in one tick, the lower PID's holding the row: the other is granted first, and keeps its lock
+    -- (t3) two alarms ring in one tick, the lower PID's holding the row: the other is granted first, and keeps its lock
     ∷ story
     (onAlarm A 0 gets gives 0 1
     ∷ onAlarm B 0x2000 gets gives 0 1
@@ -284,7 +365,7 @@ table =
     ∷ takeTrap B gets gives 5 0x2000
     ∷ unlock B x gets ok
     ∷ [])
-    -- the lower PID's waiting: the signal ends its wait first
+    -- (t4) two alarms ring in one tick, the lower PID's waiting: the signal ends its wait first
     ∷ story
     (onAlarm A 0x1000 gets gives 0 1
     ∷ onAlarm B 0 gets gives 0 1
@@ -297,19 +378,18 @@ table =
     ∷ takeTrap A gets gives 5 0x1000
     ∷ unlock A x gets refusal notlocked
     ∷ [])
-    -- the classes of call numbers, the indirect call, and the event kinds
+    -- (t5) the classes of call numbers, the indirect call, and the event kinds
     ∷ story
-    (call 0x45 A 0 0 0 0 gets refusal notmodelled
-    ∷ call 0x33 A 0 0 0 0 gets refusal notmodelled
-    ∷ call 0x0F A 0 0 0 0 gets refusal badcall
-    ∷ event 1 0x51 A 0x3A 0 0 0 0 gets gives A 0
+    (map (λ n. call n A 0 0 0 0 gets refusal notmodelled) (0x00 ∷ 0x0E ∷ 0x10 ∷ 0x19 ∷ 0x1B ∷ 0x1C ∷ 0x20 ∷ 0x29 ∷ 0x30 ∷ 0x33 ∷ 0x45 ∷ 0x47 ∷ 0x49 ∷ 0x4B ∷ 0x4C ∷ 0x4E ∷ 0x50 ∷ 0x56 ∷ [])
+    ++ map (λ n. call n A 0 0 0 0 gets refusal badcall) (0x0F ∷ 0x1A ∷ 0x1D ∷ 0x1F ∷ 0x2A ∷ 0x2F ∷ 0x3B ∷ 0x3D ∷ 0x4A ∷ 0x4D ∷ 0x4F ∷ 0x57 ∷ 0xFF ∷ [])
+    ++ event 1 0x51 A 0x3A 0 0 0 0 gets gives A 0
     ∷ event 1 0x51 A 0x51 0 0 0 0 gets refusal badcall
     ∷ event 1 0x51 A 0x100 0 0 0 0 gets refusal badcall
     ∷ event 1 0x51 A 0 0 0 0 0 gets refusal notmodelled
     ∷ event 0 0x3A A 0 0 0 0 0 gets refusal badcall
     ∷ event 5 0x3A 99 0 0 0 0 0 gets refusal badcall
     ∷ [])
-    -- callers and targets; a kill of oneself; a timed sleep that a signal cuts short; PIDs are not used again
+    -- (t6) callers and targets; a kill of oneself; a timed sleep that a signal cuts short; PIDs are not used again
     ∷ story
     (call 0x3A 6 0 0 0 0 gets refusal badcaller
     ∷ call 0x41 A 0 7 9 0 gets refusal noproc
@@ -324,7 +404,7 @@ table =
     ∷ call 0x46 1 0 0 0 0 gets refusal badcall
     ∷ fshell 1 0 0 gets gives 6 0
     ∷ [])
-    -- an exit takes all rows of the process, and the next of each sequence wakes
+    -- (t7) an exit takes all rows of the process, and the next of each sequence wakes
     ∷ story
     (lock A unshared x gets ok
     ∷ lock A unshared y gets ok
@@ -332,7 +412,7 @@ table =
     ∷ lock C shared y gets sleeping
     ∷ call 0x46 A 0 0 0 0 gets ending 0b1100 0b10
     ∷ [])
-    -- who may signal: equal effective user ids. Two traps pending: the lowest is taken first
+    -- (t8) who may signal: equal effective user ids, or privileged. Two traps pending: the lowest is taken first
     ∷ story
     (becomes A 100 gets ok
     ∷ becomes B 100 gets ok
@@ -343,8 +423,10 @@ table =
     ∷ takeTrap B gets gives 2 0x2000
     ∷ takeTrap B gets gives 7 0x7000
     ∷ takeTrap B gets ok
+    ∷ call 0x41 C 0 2 B 0 gets ok
+    ∷ call 0x41 B 0 2 C 0 gets refusal priv
     ∷ [])
-    -- a sleeper is killed; another wakes and ends in the same event
+    -- (t9) a sleeper is killed; another wakes and ends in the same event
     ∷ story
     (sleep B 9 gets sleeping
     ∷ call 0x41 1 0 3 B 0 gets moves 0 0b100
@@ -353,20 +435,49 @@ table =
     ∷ sleep A 1 gets sleeping
     ∷ tick gets moves 0 0b10
     ∷ [])
-    -- an alarm that rings into an ignored signal is off afterwards
+    -- (t10) an alarm that rings into an ignored signal is off afterwards
     ∷ story (alarm A 1 gets ok ∷ tick gets ok ∷ onAlarm A 0 gets gives 0 1 ∷ tick gets ok ∷ alarm A 1 gets ok ∷ tick gets moves 0 0b10 ∷ [])
-    -- sixteen live processes
+    -- (t13) ids: codes, ranges, and priv only for the value in D3
+    ∷ story
+    (call 0x35 A 1 3 7 0 gets ok
+    ∷ call 0x34 A 0 1 0 0 gets gives 7 0
+    ∷ call 0x34 A 0 3 0 0 gets refusal badcall
+    ∷ call 0x37 A 2 3 65536 0 gets refusal badcall
+    ∷ call 0x37 A 2 3 65535 0 gets ok
+    ∷ call 0x36 A 0 2 0 0 gets gives 65535 0
+    ∷ call 0x35 A 3 0 0 0 gets refusal badcall
+    ∷ call 0x35 A 0 4 0 0 gets refusal badcall
+    ∷ call 0x35 A 0 1 0 0 gets ok
+    ∷ call 0x34 A 0 0 0 0 gets gives 7 0
+    ∷ call 0x35 A 0 3 0 0 gets refusal priv
+    ∷ call 0x35 A 0 2 70000 0 gets ok
+    ∷ call 0x34 A 0 0 0 0 gets gives 0 0
+    ∷ [])
+    -- (t14) a pause, which an ignored signal does not end; sleep 0; signals of process 1 and kill have no other reaction; masks of fshell
+    ∷ story
+    (call 0x40 A 0 7 0 0x3000 gets gives 0 1
+    ∷ sleep A 0 gets ok
+    ∷ call 0x44 A 0 0 0 0 gets sleeping
+    ∷ call 0x41 1 0 6 A 0 gets ok
+    ∷ call 0x41 1 0 7 A 0 gets moves 0b10 0
+    ∷ wakeReport A gets gives 0 2
+    ∷ call 0x40 1 0 5 0 0 gets refusal badcall
+    ∷ call 0x40 B 0 3 0 1 gets refusal badcall
+    ∷ fshell B 256 0 gets refusal badcall
+    ∷ fshell B 0 256 gets refusal badcall
+    ∷ fshell B 0b11111111 0b11111110 gets gives 6 0
+    ∷ call 0x40 6 0 1 0 0 gets gives 0 0
+    ∷ call 0x40 6 0 2 0 0 gets gives 0 1
+    ∷ call 0x41 1 0 3 6 0 gets moves 0 0b100000
+    ∷ [])
+    -- (t11) sixteen live processes, and no memory for one more
     ∷ storyThen (λ m. eqb (length (m .procs)) 16)
     (map (λ n. fshell 1 0 0 gets gives n 0) (6 ∷ 7 ∷ 8 ∷ 9 ∷ 10 ∷ 11 ∷ 12 ∷ 13 ∷ 14 ∷ 15 ∷ 16 ∷ [])
     ++ fshell 1 0 0 gets refusal nomemory
     ∷ [])
-    -- a state that is not sound: no process
-    ∷ record {
-      from = record { procs = replicate 16 noProcess; live = 0; table = laid fresh .table; next = 2 };
-      told = tick gets refusal badstate ∷ [];
-      leaves = λ m. true;
-    }
-    ∷ []
+    -- (t12) a sound state, and states with one fact broken
+    ∷ from (two other (holding x) 3) ok
+    ∷ map (λ s. from s (refusal badstate)) broken
 
 -- "Proved of the definitions, as a single statement across one table"
 abbrev pub WorkedCases : Type 0
