@@ -8,7 +8,7 @@ use Rattle.locks.specs.Lists.{any, all, keep, sift, padded, member, agre
 use Rattle.locks.specs.declared.rows.Row.{Row}
 use Rattle.locks.specs.declared.rows.Table.{Table}
 
--- ---- a table is the list of its rows, with "unused places .. all zero"
+-- ---- a table is the list of its rows; "Unused places are all zero."
 
 unfoldable pub noRow : Row
 noRow = record { owner = 0; shared = false; len = 0; bytes = replicate 16 0 }
@@ -33,6 +33,7 @@ conflict a b = sameSequence a b && not (eqb (a .owner) (b .owner)) && not (a .sh
 unfoldable pub waits : List Row → Row → Bool
 waits earlier r = any (conflict r) earlier
 
+-- the row has that owner
 abbrev pub owns : ℕ → Row → Bool
 owns n r = eqb (r .owner) n
 
@@ -68,6 +69,7 @@ withoutWaiting n rows = sift (λ earlier q. not (waitsOf n earlier q)) [] rows
 
 -- ---- rows of a sound state
 
+-- "unused places are zero"
 unfoldable pub zeroRow : Row → Bool
 zeroRow r = isZero (r .owner) && not (r .shared) && isZero (r .len) && all isZero (r .bytes)
 

@@ -53,6 +53,7 @@ classOf n = classAmong modelled n
 unfoldable pub idOf : ℕ → Ids → ℕ
 idOf code i = cond (eqb code 0) (i .effective) (cond (eqb code 1) (i .login) (i .program))
 
+-- the ids with the one of that code changed
 unfoldable pub withId : ℕ → ℕ → Ids → Ids
 withId code v i =
     cond (eqb code 0) (record { effective = v; login = i .login; program = i .program })
@@ -133,7 +134,7 @@ doFShell p e m =
     (when (eqb (length (m .procs)) 16 || eqb (m .next) 65536) nomemory
     (answered done (m .next) 0 (born (child p e (m .next)) m)))
 
--- "From process 1: badcall."
+-- "From process 1: badcall. All rows of the process go."
 unfoldable pub doExit : Process → Machine → Outcome Machine
 doExit p m = when (eqb (p .pid) 1) badcall (answered callerEnded 0 0 (ends (p .pid) m))
 
@@ -180,13 +181,15 @@ lockRow p e r m =
     (when (eqb (length (m .rows)) 32) lcktable
     (queued p r m))))
 
+-- "lock: D2 0 shared, .. else badcall. Then .."
 unfoldable pub doLock : Process → Event → Machine → Outcome Machine
 doLock p e m = when (ltb 3 (e .d2) || badSequence e) badcall (lockRow p e (rowOf p e (asksShared e)) m)
 
--- "D3 1..16 and a named sequence, else badcall; D2 is not read; notlocked."
+-- "notlocked: unlock: the caller has no row for the sequence"
 unfoldable pub unlockRow : Row → Machine → Outcome Machine
 unlockRow r m = when (not (hasTwin r (m .rows))) notlocked (answered done 0 0 (rowsLeft (withoutTwin r (m .rows)) m))
 
+-- "unlock: D3 1..16 and a named sequence, else badcall; D2 is not read"
 unfoldable pub doUnlock : Process → Event → Machine → Outcome Machine
 doUnlock p e m = when (badSequence e) badcall (unlockRow (rowOf p e false) m)
 
@@ -218,6 +221,7 @@ doCall Kill p e m = sendKill p e m
 doCall Exit p e m = doExit p m
 doCall FShell p e m = doFShell p e m
 
+-- "badcall: .. unlisted number", "notmodelled: listed, not modelled"
 unfoldable pub ofClass : Class → Process → Event → Machine → Outcome Machine
 ofClass (Modelled c) p e m = doCall c p e m
 ofClass NotModelled p e m = refused notmodelled

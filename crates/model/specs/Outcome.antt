@@ -14,7 +14,7 @@ kindOf done = 0
 kindOf nowAsleep = 1
 kindOf callerEnded = 2
 
--- the refusals of events, by the names of the table
+-- the table of refusals, those of events: "No. | Name"
 pub data Refusal : Type 0 where
   badstate badcaller asleep trap badcall notmodelled priv noproc nomemory held locked deadlock lcktable notlocked : Refusal
 

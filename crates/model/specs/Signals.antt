@@ -11,7 +11,7 @@ use Rattle.model.specs.State.{Machine, abort, ignore, bySignal, has, sle
 use Rattle.model.specs.Outcome.{Outcome, done, answered, either}
 use Rattle.model.specs.declared.state.Process.{Process}
 
--- the process of that PID is no more
+-- "PIDs are never used again; places are." The process of that PID is no more, and those behind it move up
 unfoldable pub gone : ℕ → Machine → Machine
 gone n m = record { procs = keep (λ p. not (has n p)) (m .procs); rows = m .rows; next = m .next }
 

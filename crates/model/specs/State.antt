@@ -15,7 +15,7 @@ use Rattle.model.specs.declared.state.State.{State}
 
 -- ---- the numbers that stand for kinds
 
--- a reaction; any other is the address of a trap
+-- a reaction: "0 abort, 1 ignore, else trap there"
 abbrev pub abort : ℕ
 abort = 0
 
@@ -109,6 +109,7 @@ asleepFor kind seconds p = withRest (record { sleep = kind; seconds = seconds; w
 abbrev pub wokenBy : ℕ → ℕ → Process → Process
 wokenBy reason left p = withRest (record { sleep = awake; seconds = 0; wake = reason; left = left }) p
 
+-- "the caller sleeps"
 abbrev pub sleeps : Process → Bool
 sleeps p = not (eqb (p .rest .sleep) awake)
 
@@ -124,6 +125,7 @@ pub record Machine : Type 0 where
   pub rows : List Row
   pub next : ℕ
 
+-- the machine of a state, and the state of a machine: "Unused places are all zero."
 unfoldable pub view : State → Machine
 view s = record { procs = take (s .live) (s .procs); rows = rowsOf (s .table); next = s .next }
 
@@ -142,12 +144,14 @@ fresh =
 
 -- ---- the process of a PID
 
+-- the process has that PID
 abbrev pub has : ℕ → Process → Bool
 has n p = eqb (p .pid) n
 
 abbrev pub pids : List Process → List ℕ
 pids ps = map (λ p. p .pid) ps
 
+-- "live process": one of the machine
 unfoldable pub lives : Machine → ℕ → Bool
 lives m n = member n (pids (m .procs))
 
@@ -167,6 +171,7 @@ inPlace q (p ∷ ps) = cond (has (q .pid) p) (q ∷ ps) (p ∷ inPlace q ps)
 unfoldable pub put : Process → Machine → Machine
 put q m = record { procs = inPlace q (m .procs); rows = m .rows; next = m .next }
 
+-- every process changed by f
 unfoldable pub each : (Process → Process) → Machine → Machine
 each f m = record { procs = map f (m .procs); rows = m .rows; next = m .next }
 

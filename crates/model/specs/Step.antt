@@ -34,10 +34,11 @@ outcome e m =
     (when (sleeps (processOf m (e .caller))) asleep
     (ofCaller (processOf m (e .caller)) e m))))
 
--- "Mask bit i is the process at position i before the event. One that wakes and ends in the same event is only in the ended mask."
+-- "woken mask": asleep before the event, live and awake after it. "Mask bit i is the process at position i before the event. One that wakes and ends in the same event is only in the ended mask."
 unfoldable pub wokenMask : Machine → Machine → ℕ
 wokenMask m after = mask (λ p. sleeps p && lives after (p .pid) && not (sleeps (processOf after (p .pid)))) (m .procs)
 
+-- "ended mask": live before the event, not after it
 unfoldable pub endedMask : Machine → Machine → ℕ
 endedMask m after = mask (λ p. not (lives after (p .pid))) (m .procs)
 
