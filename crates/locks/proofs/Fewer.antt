@@ -8,7 +8,7 @@ use lib.ListN.{length}
 use Rattle.locks.specs.Lists.{any, all, consIf, keep, sift}
 use Rattle.locks.specs.Rows.{owns, conflict, waits, twin, waitsOf, waitingOf, apart}
 use Rattle.locks.specs.declared.rows.Row.{Row}
-use Rattle.locks.proofs.Tests.{cases, off, and-split, and-map, or-right, or-map}
+use Rattle.locks.proofs.Tests.{cases, off, and-split, and-mono, or-right, or-mono}
 
 module _ {A : Type 0} where
   -- xs is ys with some of its elements taken out
@@ -56,12 +56,12 @@ module _ {A : Type 0} where
 
   pub fewer-any : (f : A → Bool) {xs ys : List A} → Fewer xs ys → any f xs ≡ true → any f ys ≡ true
   fewer-any f nil h = h
-  fewer-any f (kept {x = x} {xs = xs} {ys = ys} t) h = or-map (f x) (any f xs) (f x) (any f ys) (λ e. e) (fewer-any f t) h
+  fewer-any f (kept {x = x} {xs = xs} {ys = ys} t) h = or-mono (f x) (any f xs) (f x) (any f ys) (λ e. e) (fewer-any f t) h
   fewer-any f (gone {x = x} {ys = ys} t) h = or-right (f x) (any f ys) (fewer-any f t h)
 
   pub fewer-all : (f : A → Bool) {xs ys : List A} → Fewer xs ys → all f ys ≡ true → all f xs ≡ true
   fewer-all f nil h = h
-  fewer-all f (kept {x = x} {xs = xs} {ys = ys} t) h = and-map (f x) (all f ys) (f x) (all f xs) (λ e. e) (fewer-all f t) h
+  fewer-all f (kept {x = x} {xs = xs} {ys = ys} t) h = and-mono (f x) (all f ys) (f x) (all f xs) (λ e. e) (fewer-all f t) h
   fewer-all f (gone {x = x} {ys = ys} t) h = fewer-all f t (and-split (f x) (all f ys) h .1)
 
   -- what is kept passes the test
@@ -85,7 +85,7 @@ fewer-waits r t h = fewer-any (conflict r) t h
 -- a row that still waits with fewer ahead waited before
 pub still-waits : (n : ℕ) {xs ys : List Row} (r : Row) → Fewer xs ys → waitsOf n xs r ≡ true → waitsOf n ys r ≡ true
 unfolding waitsOf
-still-waits n {xs} {ys} r t h = and-map (owns n r) (waits xs r) (owns n r) (waits ys r) (λ e. e) (fewer-waits r t) h
+still-waits n {xs} {ys} r t h = and-mono (owns n r) (waits xs r) (owns n r) (waits ys r) (λ e. e) (fewer-waits r t) h
 
 fewer-waiting-behind : (n : ℕ) {cs bs xs ys : List Row} → Fewer cs bs → Fewer xs ys → length (sift (waitsOf n) cs xs) ≤ length (sift (waitsOf n) bs ys)
 fewer-waiting-behind n t nil = zero-le
@@ -108,5 +108,5 @@ pub fewer-apart : {xs ys : List Row} → Fewer xs ys → apart ys ≡ true → a
 unfolding apart
 fewer-apart nil h = h
 fewer-apart (kept {x = r} {xs = xs} {ys = ys} t) h =
-    and-map (not (any (λ q. twin q r) ys)) (apart ys) (not (any (λ q. twin q r) xs)) (apart xs) (fewer-none (λ q. twin q r) t) (fewer-apart t) h
+    and-mono (not (any (λ q. twin q r) ys)) (apart ys) (not (any (λ q. twin q r) xs)) (apart xs) (fewer-none (λ q. twin q r) t) (fewer-apart t) h
 fewer-apart (gone {x = r} {ys = ys} t) h = fewer-apart t (and-split (not (any (λ q. twin q r) ys)) (apart ys) h .1)

@@ -4,9 +4,9 @@ use native.Mathlib.Nat.{le-of-suc-le-suc, not-suc-le-zero}
 use mathlib.Core.Path.{_≡_, refl, sym, _∙_}
 use mathlib.Core.Bool.{Bool, true, _||_, false≢true, or-false, or-assoc}
 use mathlib.Core.List.{List, [], _∷_, _++_, map}
-use lib.ListN.{length, getD}
+use lib.ListN.{length, getD, drop, replicate}
 use Rattle.locks.specs.Lists.{any, all}
-use Rattle.locks.proofs.Tests.{and-join, and-map, or-left, or-right, or-elim, or-map}
+use Rattle.locks.proofs.Tests.{and-split, and-join, and-mono, or-left, or-right, or-elim, or-mono}
 
 module _ {A : Type 0} where
   -- an element that passes, by its place
@@ -33,19 +33,28 @@ module _ {A : Type 0} where
   pub any-end : (f : A → Bool) (xs : List A) (x : A) → any f (xs ++ x ∷ []) ≡ (any f xs || f x)
   any-end f xs x = any-append f xs (x ∷ []) ∙ rw or-false
 
-  pub any-map : (f g : A → Bool) → ((x : A) → f x ≡ true → g x ≡ true) → (xs : List A) → any f xs ≡ true → any g xs ≡ true
-  any-map f g i [] h = h
-  any-map f g i (x ∷ xs) h = or-map (f x) (any f xs) (g x) (any g xs) (i x) (any-map f g i xs) h
+  pub any-mono : (f g : A → Bool) → ((x : A) → f x ≡ true → g x ≡ true) → (xs : List A) → any f xs ≡ true → any g xs ≡ true
+  any-mono f g i [] h = h
+  any-mono f g i (x ∷ xs) h = or-mono (f x) (any f xs) (g x) (any g xs) (i x) (any-mono f g i xs) h
 
-  pub all-map : (f g : A → Bool) → ((x : A) → f x ≡ true → g x ≡ true) → (xs : List A) → all f xs ≡ true → all g xs ≡ true
-  all-map f g i [] h = refl
-  all-map f g i (x ∷ xs) h = and-map (f x) (all f xs) (g x) (all g xs) (i x) (all-map f g i xs) h
+  pub all-mono : (f g : A → Bool) → ((x : A) → f x ≡ true → g x ≡ true) → (xs : List A) → all f xs ≡ true → all g xs ≡ true
+  all-mono f g i [] h = refl
+  all-mono f g i (x ∷ xs) h = and-mono (f x) (all f xs) (g x) (all g xs) (i x) (all-mono f g i xs) h
 
   pub all-end : (f : A → Bool) (xs : List A) (x : A) → all f xs ≡ true → f x ≡ true → all f (xs ++ x ∷ []) ≡ true
   all-end f [] x h k = and-join (f x) true k refl
-  all-end f (y ∷ xs) x h k = and-map (f y) (all f xs) (f y) (all f (xs ++ x ∷ [])) (λ e. e) (λ e. all-end f xs x e k) h
+  all-end f (y ∷ xs) x h k = and-mono (f y) (all f xs) (f y) (all f (xs ++ x ∷ [])) (λ e. e) (λ e. all-end f xs x e k) h
 
   -- a test over the elements changed by g
   pub all-of-map : {B : Type 0} (f : A → Bool) (g : B → A) (h : B → Bool) → ((x : B) → h x ≡ true → f (g x) ≡ true) → (xs : List B) → all h xs ≡ true → all f (map g xs) ≡ true
   all-of-map f g h i [] k = refl
-  all-of-map f g h i (x ∷ xs) k = and-map (h x) (all h xs) (f (g x)) (all f (map g xs)) (i x) (all-of-map f g h i xs) k
+  all-of-map f g h i (x ∷ xs) k = and-mono (h x) (all h xs) (f (g x)) (all f (map g xs)) (i x) (all-of-map f g h i xs) k
+
+  pub all-replicate : (f : A → Bool) (x : A) → f x ≡ true → (k : ℕ) → all f (replicate k x) ≡ true
+  all-replicate f x h zero = refl
+  all-replicate f x h (suc k) = and-join (f x) _ h (all-replicate f x h k)
+
+  pub all-drop : (f : A → Bool) (d : ℕ) (xs : List A) → all f xs ≡ true → all f (drop d xs) ≡ true
+  all-drop f zero xs h = h
+  all-drop f (suc d) [] h = refl
+  all-drop f (suc d) (x ∷ xs) h = all-drop f d xs (and-split (f x) (all f xs) h .1)

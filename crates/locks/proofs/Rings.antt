@@ -9,8 +9,8 @@ use Rattle.locks.specs.Lists.{any}
 use Rattle.locks.specs.Rows.{owns, conflict, waits}
 use Rattle.locks.specs.Chains.{Link, Chain, one, more, RingFree, links, leadsBack}
 use Rattle.locks.specs.declared.rows.Row.{Row}
-use Rattle.locks.proofs.Tests.{and-split, or-right, or-elim, or-map}
-use Rattle.locks.proofs.Lists.{any-map}
+use Rattle.locks.proofs.Tests.{and-split, or-right, or-elim, or-mono}
+use Rattle.locks.proofs.Lists.{any-mono}
 use Rattle.locks.proofs.Fewer.{Fewer, nil, kept, gone, fewer-any, fewer-end, fewer-end-gone}
 use Rattle.locks.proofs.Chains.{linked, blocks, linked-cons, to-link, of-link, joined, deadlock-exact}
 
@@ -21,7 +21,7 @@ unfolding links
 fewer-linked a b t nil h = h
 fewer-linked a b {cs} {bs} t (kept {x = r} {xs = xs} {ys = ys} u) h =
     rw linked-cons
-    (or-map (any (blocks a b r) cs) (linked (links (cs ++ r ∷ []) xs) a b) (any (blocks a b r) bs) (linked (links (bs ++ r ∷ []) ys) a b)
+    (or-mono (any (blocks a b r) cs) (linked (links (cs ++ r ∷ []) xs) a b) (any (blocks a b r) bs) (linked (links (bs ++ r ∷ []) ys) a b)
     (fewer-any (blocks a b r) t) (fewer-linked a b (fewer-end r t) u) (rw linked-cons at h))
 fewer-linked a b {cs} {bs} t (gone {x = r} u) h = rw linked-cons (or-right (any (blocks a b r) bs) _ (fewer-linked a b (fewer-end-gone r t) u h))
 
@@ -54,12 +54,12 @@ module _ (rows : List Row) (r : Row) where
   unfolding waits
   new-link a b l =
       or-elim (linked (links [] rows) a b) (any (blocks a b r) rows) (λ e. inl (to-link rows a b e))
-      (λ e. inr (owner e, any-map (blocks a b r) (conflict r) (λ q k. and-split (conflict r q) (owns a r && owns b q) k .0) rows e))
+      (λ e. inr (owner e, any-mono (blocks a b r) (conflict r) (λ q k. and-split (conflict r q) (owns a r && owns b q) k .0) rows e))
       (sym (linked-end a b [] rows r) ∙ of-link (rows ++ r ∷ []) a b l)
     where
       owner : any (blocks a b r) rows ≡ true → a ≡ r .owner
       owner e =
-          let k = any-map (blocks a b r) (λ q. owns a r) (λ q k. and-split (owns a r) (owns b q) (and-split (conflict r q) (owns a r && owns b q) k .1) .0) rows e in
+          let k = any-mono (blocks a b r) (λ q. owns a r) (λ q k. and-split (owns a r) (owns b q) (and-split (conflict r q) (owns a r && owns b q) k .1) .0) rows e in
           sym (eqb-true (r .owner) a (always (owns a r) rows k))
         where
           always : (t : Bool) (xs : List Row) → any (λ q. t) xs ≡ true → t ≡ true

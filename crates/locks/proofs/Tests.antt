@@ -23,8 +23,8 @@ and-split a b = and-eq-true-iff a b .0
 pub and-join : (a b : Bool) → a ≡ true → b ≡ true → (a && b) ≡ true
 and-join a b h k = and-eq-true-iff a b .1 (h, k)
 
-pub and-map : (a b c d : Bool) → (a ≡ true → c ≡ true) → (b ≡ true → d ≡ true) → (a && b) ≡ true → (c && d) ≡ true
-and-map a b c d f g h = let s = and-split a b h in and-join c d (f (s .0)) (g (s .1))
+pub and-mono : (a b c d : Bool) → (a ≡ true → c ≡ true) → (b ≡ true → d ≡ true) → (a && b) ≡ true → (c && d) ≡ true
+and-mono a b c d f g h = let s = and-split a b h in and-join c d (f (s .0)) (g (s .1))
 
 pub and-off : (a b : Bool) → (a && b) ≡ false → a ≡ true → b ≡ false
 and-off a b h e = rw e at h
@@ -40,8 +40,8 @@ pub or-elim : {P : Type 0} (a b : Bool) → (a ≡ true → P) → (b ≡ true �
 or-elim true b f g h = f refl
 or-elim false b f g h = g h
 
-pub or-map : (a b c d : Bool) → (a ≡ true → c ≡ true) → (b ≡ true → d ≡ true) → (a || b) ≡ true → (c || d) ≡ true
-or-map a b c d f g h = or-elim a b (λ e. or-left c d (f e)) (λ e. or-right c d (g e)) h
+pub or-mono : (a b c d : Bool) → (a ≡ true → c ≡ true) → (b ≡ true → d ≡ true) → (a || b) ≡ true → (c || d) ≡ true
+or-mono a b c d f g h = or-elim a b (λ e. or-left c d (f e)) (λ e. or-right c d (g e)) h
 
 pub or-off : (a b : Bool) → (a || b) ≡ false → (a ≡ false) × (b ≡ false)
 or-off true b h = absurd (true≢false h)

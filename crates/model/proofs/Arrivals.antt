@@ -12,7 +12,7 @@ use Rattle.locks.specs.Lists.{sift, isZero}
 use Rattle.locks.specs.Rows.{waitsOf, waitingOf, withoutWaiting}
 use Rattle.locks.specs.declared.rows.Row.{Row}
 use Rattle.locks.proofs.Tests.{cases, picked, off, or-left}
-use Rattle.locks.proofs.Lists.{all-map, all-of-map}
+use Rattle.locks.proofs.Lists.{all-mono, all-of-map}
 use Rattle.locks.proofs.Fewer.{Fewer, nil, fewer-refl, fewer-sift, fewer-end, fewer-end-gone, still-waits}
 use Rattle.model.specs.State.{Machine, abort, ignore, forLock, forTime, bySignal, byTime, noProcess, newProcess, pids, sleeps, reactionTo, withSignals, withAlarm, lives, processOf, inPlace, put, each, granted, rowsLeft}
 use Rattle.model.specs.Signals.{roused, trapped, reacts, arrives}
@@ -94,7 +94,7 @@ ok-woken q left m t a s o =
       procs =
           all-of-map (soundProcess left) (granted left) (λ p. soundProcess left (granted left p)) (λ p h. h) (inPlace q (m .procs))
           (all-put (λ p. soundProcess left (granted left p)) q (m .procs) (rw (granted-awake left q a) (sound-sane s))
-          (all-map (soundProcess (m .rows)) (λ p. soundProcess left (granted left p)) (λ p h. sound-sane (granted-sane left (m .rows) t p (sane h))) (m .procs) (o .procs)));
+          (all-mono (soundProcess (m .rows)) (λ p. soundProcess left (granted left p)) (λ p h. sound-sane (granted-sane left (m .rows) t p (sane h))) (m .procs) (o .procs)));
     }
 
 -- ---- a signal

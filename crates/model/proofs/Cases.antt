@@ -1,6 +1,7 @@
 -- The worked cases hold, by computation. Assumes nothing.
 use mathlib.Core.Bool.{Bool, true}
-use mathlib.Core.Path.{refl}
+use mathlib.Core.Path.{_≡_, refl}
+use mathlib.Core.List.{map, map-append}
 use lib.Count.{trailingZeros}
 use Rattle.locks.specs.Lists.{padded, agree}
 use Rattle.locks.specs.Rows.{noRow, rowsOf, laidRows, sameSequence, conflict, waits, twin, hasTwin, waitsOf, waitingOf, withoutTwin, withoutOwner, withoutWaiting, zeroRow, soundRow, apart}
@@ -11,7 +12,7 @@ use Rattle.model.specs.Clock.{slept, rings, alarms, ticked}
 use Rattle.model.specs.Calls.{modelled, listed, classAmong, classOf, idOf, withId, getId, newIds, setId, inPriority, setPrior, setSignal, sendKill, childReaction, childReactions, child, born, doFShell, doExit, doSleep, rowOf, appended, queued, lockRow, doLock, unlockRow, doUnlock, ownCall, doCall, ofClass, called}
 use Rattle.model.specs.Sound.{zeroProcess, ascend, pidsFit, sleepFits, wakeFits, quiet, addressed, trapsFit, reactionsFit, soundProcess, lockFits, soundMachine, sound}
 use Rattle.model.specs.Step.{reported, ofCaller, outcome, wokenMask, endedMask, settled, stepOf}
-use Rattle.model.specs.Cases.{table, WorkedCases}
+use Rattle.model.specs.Cases.{comes, should, stories, states, table, WorkedCases, RefusalNumbers}
 
 -- `unfolding opened` opens every rule, so that an event computes
 unfoldable pub opened : Bool
@@ -24,6 +25,17 @@ unfolding
     reported ofCaller outcome wokenMask endedMask settled stepOf
 opened = true
 
+stories-hold : map comes stories ≡ map should stories
+unfolding opened stories
+stories-hold = refl
+
+states-hold : map comes states ≡ map should states
+unfolding opened states
+states-hold = refl
+
 pub worked-cases : WorkedCases
-unfolding opened table
-worked-cases = refl
+unfolding table
+worked-cases = rw (map-append, map-append, stories-hold, states-hold)
+
+pub refusal-numbers : RefusalNumbers
+refusal-numbers = refl

@@ -11,8 +11,8 @@ use borrow.Author.Tests.{eqb-true, eq-eqb, eqb-false, ne-eqb, leb-true, le-leb, 
 use Rattle.locks.specs.Lists.{all, keep, sift, member}
 use Rattle.locks.specs.Rows.{owns, waitsOf, waitingOf, withoutOwner, soundRow}
 use Rattle.locks.specs.declared.rows.Row.{Row}
-use Rattle.locks.proofs.Tests.{cases, and-split, and-join, and-map, or-left, or-map}
-use Rattle.locks.proofs.Lists.{any-end, all-map, all-end}
+use Rattle.locks.proofs.Tests.{cases, and-split, and-join, and-mono, or-left, or-mono}
+use Rattle.locks.proofs.Lists.{any-end, all-mono, all-end}
 use Rattle.locks.proofs.Fewer.{fewer-keep, fewer-all, fewer-length, all-kept}
 use Rattle.model.specs.State.{Machine, abort, has, pids, newProcess, rowsLeft}
 use Rattle.model.specs.Signals.{gone, ends}
@@ -38,7 +38,7 @@ ascend-down : (a b : ℕ) (ns : List ℕ) (next : ℕ) → a ≤ b → ascend b 
 unfolding ascend
 ascend-down a b [] next l h = let k = leb-true b next h in le-leb a next (omega arith)
 ascend-down a b (n ∷ ns) next l h =
-    and-map (leb b n) (ascend (n + 1) ns next) (leb a n) (ascend (n + 1) ns next) (λ e. let k = leb-true b n e in le-leb a n (omega arith)) (λ e. e) h
+    and-mono (leb b n) (ascend (n + 1) ns next) (leb a n) (ascend (n + 1) ns next) (λ e. let k = leb-true b n e in le-leb a n (omega arith)) (λ e. e) h
 
 ascend-keep : (f : ℕ → Bool) (low : ℕ) (ns : List ℕ) (next : ℕ) → ascend low ns next ≡ true → ascend low (keep f ns) next ≡ true
 unfolding ascend
@@ -61,7 +61,7 @@ member-keep : (n o : ℕ) (ns : List ℕ) → (o ≡ n → ⊥) → member o ns 
 member-keep n o [] d h = h
 member-keep n o (k ∷ ns) d h =
     cases (eqb k n) (λ e. rw e (member-keep n o ns d (rw (ne-eqb k o (λ (f : k ≡ o). d (sym f ∙ eqb-true k n e))) at h)))
-    (λ e. rw e (or-map (eqb k o) (member o ns) (eqb k o) (member o (keep (other n) ns)) (λ f. f) (member-keep n o ns d) h))
+    (λ e. rw e (or-mono (eqb k o) (member o ns) (eqb k o) (member o (keep (other n) ns)) (λ f. f) (member-keep n o ns d) h))
 
 -- a row of another owner
 row-keep : (n : ℕ) (live : List ℕ) (r : Row) → not (owns n r) ≡ true → soundRow live r ≡ true → soundRow (keep (other n) live) r ≡ true
@@ -74,7 +74,7 @@ rows-keep : (n : ℕ) (live : List ℕ) (rows : List Row) → all (λ r. not (ow
 rows-keep n live [] d h = refl
 rows-keep n live (r ∷ rows) d h =
     let s = and-split (not (owns n r)) (all (λ q. not (owns n q)) rows) d in
-    and-map (soundRow live r) (all (soundRow live) rows) (soundRow (keep (other n) live) r) (all (soundRow (keep (other n) live)) rows)
+    and-mono (soundRow live r) (all (soundRow live) rows) (soundRow (keep (other n) live) r) (all (soundRow (keep (other n) live)) rows)
     (row-keep n live r (s .0)) (rows-keep n live rows (s .1)) h
 
 ok-gone : (n : ℕ) (m : Machine) → (n ≡ 1 → ⊥) → all (λ r. not (owns n r)) (m .rows) ≡ true → Ok m → Ok (gone n m)
@@ -132,7 +132,7 @@ ascend-end : (low : ℕ) (ns : List ℕ) (next : ℕ) → ascend low ns next ≡
 unfolding ascend
 ascend-end low [] next h = and-join (leb low next) _ h (le-leb (next + 1) (next + 1) (le-refl (next + 1)))
 ascend-end low (n ∷ ns) next h =
-    and-map (leb low n) (ascend (n + 1) ns next) (leb low n) (ascend (n + 1) (ns ++ next ∷ []) (next + 1)) (λ e. e) (ascend-end (n + 1) ns next) h
+    and-mono (leb low n) (ascend (n + 1) ns next) (leb low n) (ascend (n + 1) (ns ++ next ∷ []) (next + 1)) (λ e. e) (ascend-end (n + 1) ns next) h
 
 fit-end : (ns : List ℕ) (next : ℕ) → next < 65536 → pidsFit ns next ≡ true → pidsFit (ns ++ next ∷ []) (next + 1) ≡ true
 unfolding pidsFit
@@ -181,7 +181,7 @@ ok-born p e m s l k o =
           rw (map-append (λ (q : Process). q .pid) (m .procs) (child p e (m .next) ∷ []), child-pid p e (m .next))
           (record {
             fit = fit-end (pids (m .procs)) (m .next) k (o .frame .fit);
-            rows-sound = all-map (soundRow (pids (m .procs))) (soundRow (pids (m .procs) ++ m .next ∷ [])) (row-end (pids (m .procs)) (m .next)) (m .rows) (o .frame .rows-sound);
+            rows-sound = all-mono (soundRow (pids (m .procs))) (soundRow (pids (m .procs) ++ m .next ∷ [])) (row-end (pids (m .procs)) (m .next)) (m .rows) (o .frame .rows-sound);
             rows-apart = o .frame .rows-apart;
             few = rw (length-append, length-map) (omega arith);
             rows-few = o .frame .rows-few;

@@ -11,8 +11,8 @@ use borrow.Author.Tests.{eqb-true, eq-eqb, eqb-false, ne-eqb, not-true}
 use Rattle.locks.specs.Lists.{any, all, consIf, sift, member, isZero}
 use Rattle.locks.specs.Rows.{owns, twin, hasTwin, waits, waitsOf, waitingOf, soundRow, apart}
 use Rattle.locks.specs.declared.rows.Row.{Row}
-use Rattle.locks.proofs.Tests.{cases, picked, and-split, and-join, and-off, and-map, or-off}
-use Rattle.locks.proofs.Lists.{any-end, all-end, all-map}
+use Rattle.locks.proofs.Tests.{cases, picked, and-split, and-join, and-off, and-mono, or-off}
+use Rattle.locks.proofs.Lists.{any-end, all-end, all-mono}
 use Rattle.locks.proofs.Fewer.{Fewer, fewer-waiting}
 use Rattle.model.specs.State.{Machine, forLock, byGrant, has, pids, asleepFor, inPlace, put, granted, rowsLeft}
 use Rattle.model.specs.Calls.{appended}
@@ -101,7 +101,7 @@ unfolding apart
 apart-end [] r d h = refl
 apart-end (q ∷ rows) r d h =
     let s = or-off (twin r q) (any (twin r) rows) d in
-    and-map (not (any (λ x. twin x q) rows)) (apart rows) (not (any (λ x. twin x q) (rows ++ r ∷ []))) (apart (rows ++ r ∷ []))
+    and-mono (not (any (λ x. twin x q) rows)) (apart rows) (not (any (λ x. twin x q) (rows ++ r ∷ []))) (apart (rows ++ r ∷ []))
     (λ e. rw (any-end (λ x. twin x q) rows r, not-true (any (λ x. twin x q) rows) e, s .0))
     (apart-end rows r (s .1)) h
 
@@ -132,7 +132,7 @@ ok-held r m f w o =
     record {
       frame = frame-end r (f .sound) (f .first) (f .room) (o .frame);
       procs =
-          all-map (soundProcess (m .rows)) (soundProcess (m .rows ++ r ∷ []))
+          all-mono (soundProcess (m .rows)) (soundProcess (m .rows ++ r ∷ []))
           (λ p h. sound-sane (sane-end (m .rows) r p (held-waits (p .pid) (m .rows) r w) (sane h))) (m .procs) (o .procs);
     }
 
@@ -144,7 +144,7 @@ all-other : (rows : List Row) (r : Row) (ps : List Process) → member (r .owner
 all-other rows r [] d h = refl
 all-other rows r (p ∷ ps) d h =
     let s = or-off (has (r .owner) p) (member (r .owner) (pids ps)) d in
-    and-map (soundProcess rows p) (all (soundProcess rows) ps) (soundProcess (rows ++ r ∷ []) p) (all (soundProcess (rows ++ r ∷ [])) ps)
+    and-mono (soundProcess rows p) (all (soundProcess rows) ps) (soundProcess (rows ++ r ∷ []) p) (all (soundProcess (rows ++ r ∷ [])) ps)
     (λ e. sound-sane (sane-other rows r p (s .0) (sane e))) (all-other rows r ps (s .1)) h
 
 -- all but the owner, which is put in its place

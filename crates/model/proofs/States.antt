@@ -1,17 +1,17 @@
 -- A sound state stays sound, and rows without a ring stay so. Assumes nothing.
-use Prim.Native.Nat.{ℕ, zero, suc, _-_, _≤_, zero-le, suc-le-suc}
+use Prim.Native.Nat.{ℕ, _-_, _≤_, zero-le, suc-le-suc}
 use native.Mathlib.Nat.{not-suc-le-zero}
 use native.Mathlib.Omega.{arith}
 use mathlib.Core.Path.{_≡_, refl}
-use mathlib.Core.Bool.{Bool, true, not, false≢true, and-eq-true-iff}
+use mathlib.Core.Bool.{true, not, false≢true, and-eq-true-iff}
 use mathlib.Core.List.{List, [], _∷_}
 use lib.ListN.{length, take, replicate, length-take, length-map}
 use lib.Seq.{take-append-seam, drop-append-seam}
 use borrow.Author.Tests.{leb-true, le-leb}
-use Rattle.locks.specs.Lists.{all, padded}
+use Rattle.locks.specs.Lists.{padded}
 use Rattle.locks.specs.Rows.{noRow, rowsOf, laidRows, zeroRow}
 use Rattle.locks.specs.Chains.{Link, Chain, one, more, RingFree}
-use Rattle.locks.proofs.Tests.{and-join}
+use Rattle.locks.proofs.Lists.{all-replicate}
 use Rattle.model.specs.State.{Machine, view, laid, fresh, pids, noProcess, newProcess}
 use Rattle.model.specs.Outcome.{badstate, when}
 use Rattle.model.specs.Sound.{pidsFit, soundMachine, zeroProcess, sound}
@@ -55,10 +55,6 @@ ok-view s h =
     let k = simp and-eq-true-iff at h in
     machine-ok (view s) (k .1) (take-few (s .live) 16 (s .procs) (leb-true (s .live) 16 (k .0 .0 .0 .0 .1)))
     (take-few (s .table .used) 32 (s .table .rows) (leb-true (s .table .used) 32 (k .0 .0 .0 .1)))
-
-all-replicate : {A : Type 0} (f : A → Bool) (x : A) → f x ≡ true → (k : ℕ) → all f (replicate k x) ≡ true
-all-replicate f x h zero = refl
-all-replicate f x h (suc k) = and-join (f x) _ h (all-replicate f x h k)
 
 no-process : zeroProcess noProcess ≡ true
 unfolding zeroProcess noProcess newProcess

@@ -12,6 +12,7 @@ use Rattle.locks.specs.Lists.{all, member, between, isZero, padded}
 use Rattle.locks.specs.Rows.{withoutTwin, soundRow}
 use Rattle.locks.specs.declared.rows.Row.{Row}
 use Rattle.locks.proofs.Tests.{and-split, and-join, or-left, or-off}
+use Rattle.locks.proofs.Lists.{all-drop, all-replicate}
 use Rattle.locks.proofs.Fewer.{fewer-keep}
 use Rattle.model.specs.State.{Machine, forSignal, forTime, forLock, pids, sleeps, asleepFor, lives, processOf}
 use Rattle.model.specs.Outcome.{Outcome, refused, answered, when, either, own}
@@ -92,18 +93,9 @@ sane-taken rows p a s = (
 
 -- ---- the row asked for
 
-zeros : (k : ℕ) → all isZero (replicate k 0) ≡ true
-zeros zero = refl
-zeros (suc k) = zeros k
-
-drop-zeros : (d k : ℕ) → all isZero (drop d (replicate k 0)) ≡ true
-drop-zeros zero k = zeros k
-drop-zeros (suc d) zero = refl
-drop-zeros (suc d) (suc k) = drop-zeros d k
-
 zeros-after : (d k : ℕ) (s : List ℕ) → all isZero (drop d (take d s ++ replicate k 0)) ≡ true
-zeros-after zero k s = zeros k
-zeros-after (suc d) k [] = drop-zeros (suc d) k
+zeros-after zero k s = all-replicate isZero 0 refl k
+zeros-after (suc d) k [] = all-drop isZero (suc d) (replicate k 0) (all-replicate isZero 0 refl k)
 zeros-after (suc d) k (x ∷ s) = zeros-after d k s
 
 row-sound : (p : Process) (e : Event) (b : Bool) (live : List ℕ) → member (p .pid) live ≡ true → between 1 16 (e .d3) ≡ true → soundRow live (rowOf p e b) ≡ true

@@ -12,7 +12,7 @@ use lib.Count.{trailingZeros}
 use lib.Pow.{pow-lt, pow-pos}
 use borrow.Author.Tests.{eqb-true, eqb-false, ne-eqb, lt-ltb, ltb-true, not-true}
 use Rattle.locks.specs.Lists.{bit, isZero}
-use Rattle.locks.proofs.Tests.{cases, and-split, and-map, or-left, or-right, or-map}
+use Rattle.locks.proofs.Tests.{cases, and-split, and-mono, or-left, or-right, or-mono}
 use Rattle.model.specs.Sound.{addressed, trapsFit}
 
 -- ---- bits
@@ -63,8 +63,8 @@ addressed-stay : (n p q k : ℕ) → Stay n p q → n < k → (xs : List ℕ) �
 unfolding addressed
 addressed-stay n p q k s l [] h = refl
 addressed-stay n p q k s l (x ∷ xs) h =
-    and-map (bit k p || isZero x) (addressed p (suc k) xs) (bit k q || isZero x) (addressed q (suc k) xs)
-    (or-map (bit k p) (isZero x) (bit k q) (isZero x) (s k (λ (e : n ≡ k). omega arith)) (λ e. e))
+    and-mono (bit k p || isZero x) (addressed p (suc k) xs) (bit k q || isZero x) (addressed q (suc k) xs)
+    (or-mono (bit k p) (isZero x) (bit k q) (isZero x) (s k (λ (e : n ≡ k). omega arith)) (λ e. e))
     (addressed-stay n p q (suc k) s (omega arith) xs) h
 
 -- the address at place i, which is bit i + k's, changed
@@ -74,11 +74,11 @@ unfolding addressed
 addressed-set n p q i k a e s b [] h = refl
 addressed-set n p q zero k a e s b (x ∷ xs) h =
     let f : n ≡ k = omega arith in
-    and-map (bit k p || isZero x) (addressed p (suc k) xs) (bit k q || isZero a) (addressed q (suc k) xs)
+    and-mono (bit k p || isZero x) (addressed p (suc k) xs) (bit k q || isZero a) (addressed q (suc k) xs)
     (λ _. subst (λ (j : ℕ). (bit j q || isZero a) ≡ true) f b) (addressed-stay n p q (suc k) s (omega arith) xs) h
 addressed-set n p q (suc i) k a e s b (x ∷ xs) h =
-    and-map (bit k p || isZero x) (addressed p (suc k) xs) (bit k q || isZero x) (addressed q (suc k) (set xs i a))
-    (or-map (bit k p) (isZero x) (bit k q) (isZero x) (s k (λ (f : n ≡ k). omega arith)) (λ e. e))
+    and-mono (bit k p || isZero x) (addressed p (suc k) xs) (bit k q || isZero x) (addressed q (suc k) (set xs i a))
+    (or-mono (bit k p) (isZero x) (bit k q) (isZero x) (s k (λ (f : n ≡ k). omega arith)) (λ e. e))
     (addressed-set n p q i (suc k) a (omega arith) s b xs) h
 
 -- these traps pending, of signals 1, 2, 4 to 7

@@ -1,4 +1,4 @@
--- The worked cases (a) to (k) of document 01, the slips (s1) to (s4) that it warns of, and more (t1) to (t14), as one table. Assumes nothing.
+-- The worked cases (a) to (k) of document 01, the slips (s1) to (s4) that it warns of, and more (t1) to (t16), as one table. Assumes nothing.
 use Prim.Native.Nat.{ℕ, suc, zero, _+_, _-_, _^_}
 use mathlib.Core.Path.{_≡_}
 use mathlib.Core.Bool.{Bool, true, false, _&&_}
@@ -9,7 +9,7 @@ use Rattle.locks.specs.Lists.{keep, padded, isZero}
 use Rattle.locks.specs.Rows.{owns, waitingOf}
 use Rattle.locks.specs.declared.rows.Row.{Row}
 use Rattle.model.specs.State.{Machine, view, laid, fresh, abort, ignore, awake, forSignal, forLock, forTime, never, byTime, noIds, newProcess, withPriority, withSignals, withRest, processOf}
-use Rattle.model.specs.Outcome.{refusal, badstate, badcaller, asleep, trap, badcall, notmodelled, priv, noproc, nomemory, held, locked, deadlock, lcktable, notlocked}
+use Rattle.model.specs.Outcome.{numberOf, refusal, badstate, badcaller, asleep, trap, badcall, notmodelled, priv, noproc, nomemory, held, locked, deadlock, lcktable, notlocked}
 use Rattle.model.specs.Step.{stepOf}
 use Rattle.model.specs.declared.state.Process.{Process}
 use Rattle.model.specs.declared.state.State.{State}
@@ -170,10 +170,14 @@ comes c = let r = played (c .from) (c .told) in (r .1, c .leaves (view (r .0)))
 abbrev pub should : Case → List Answer × Bool
 should c = (map (λ t. t .1) (c .told), true)
 
--- A locks the sequences of one byte from n on, k of them
-abbrev fills : ℕ → ℕ → List (Event × Answer)
-fills n zero = []
-fills n (suc k) = lock A unshared (n ∷ []) gets ok ∷ fills (n + 1) k
+-- the numbers from n on, k of them
+abbrev count : ℕ → ℕ → List ℕ
+count n zero = []
+count n (suc k) = n ∷ count (n + 1) k
+
+-- A locks k sequences of one byte, from 1 on
+abbrev fills : ℕ → List (Event × Answer)
+fills k = map (λ n. lock A unshared (n ∷ []) gets ok) (count 1 k)
 
 -- A and B hold x shared; all unshared, A holds x, B holds y and A waits for y
 abbrev bothShared : List (Event × Answer)
@@ -182,9 +186,9 @@ bothShared = lock A shared x gets ok ∷ lock B shared x gets ok ∷ []
 abbrev crossed : List (Event × Answer)
 crossed = lock A unshared x gets ok ∷ lock B unshared y gets ok ∷ lock A unshared y gets sleeping ∷ []
 
--- ---- states that are sound but for one fact
+-- ---- sound states, and states with one fact broken
 
--- process 2, asleep for nothing
+-- process 2, awake
 abbrev other : Process
 other = newProcess 2 noIds noIds 0 (replicate 7 abort)
 
@@ -192,7 +196,7 @@ other = newProcess 2 noIds noIds 0 (replicate 7 abort)
 abbrev two : Process → List Row → ℕ → State
 two p rows next = laid (record { procs = processOf fresh 1 ∷ p ∷ []; rows = rows; next = next })
 
--- a row of process 2, or of another, for the first n bytes
+-- an unshared row of that owner and that length
 abbrev rowOfLength : ℕ → ℕ → List ℕ → Row
 rowOfLength owner n s = record { owner = owner; shared = false; len = n; bytes = padded 16 0 s }
 
@@ -206,17 +210,31 @@ resting sleep seconds wake left = withRest (record { sleep = sleep; seconds = se
 abbrev signalled : List ℕ → ℕ → List ℕ → Process → Process
 signalled reactions pending traps p = withSignals (record { reactions = reactions; pending = pending; traps = traps }) p
 
--- another count of processes, or of rows
-abbrev counting : ℕ → ℕ → State
-counting live used =
-    record { procs = laid fresh .procs; live = live; table = record { rows = laid fresh .table .rows; used = used }; next = 2 }
+-- sixteen processes, and this count of them
+abbrev crowd : ℕ → State
+crowd live =
+    record {
+      procs = processOf fresh 1 ∷ map (λ n. newProcess n noIds noIds 0 (replicate 7 abort)) (count 2 15);
+      live = live;
+      table = laid fresh .table;
+      next = 17;
+    }
+
+-- process 1 with 32 rows, and this count of them
+abbrev pile : ℕ → State
+pile used =
+    record { procs = laid fresh .procs; live = 1; table = record { rows = map (λ n. rowOfLength 1 1 (n ∷ [])) (count 1 32); used = used }; next = 2 }
+
+-- process 1 alone, with another reaction to signal s
+abbrev hearing : ℕ → State
+hearing s = laid (record { procs = newProcess 1 noIds noIds 0 (set (processOf fresh 1 .signals .reactions) (s - 1) abort) ∷ []; rows = []; next = 2 })
 
 abbrev broken : List State
 broken =
     -- counts of processes and rows, and lengths of sequences
-    counting 0 0
-    ∷ counting 17 0
-    ∷ counting 1 33
+    crowd 0
+    ∷ crowd 17
+    ∷ pile 33
     ∷ two other (rowOfLength 2 0 [] ∷ []) 3
     ∷ two other (rowOfLength 2 17 sixteen ∷ []) 3
     -- PIDs
@@ -247,20 +265,19 @@ broken =
     -- priorities
     ∷ two (withPriority 41 other) [] 3
     ∷ two (withPriority (2 ^ 32 - 41) other) [] 3
-    -- kill's reaction, and process 1's others
+    -- kill's reaction; process 1's others are below
     ∷ two (signalled (abort ∷ abort ∷ ignore ∷ replicate 4 abort) 0 (replicate 7 0) other) [] 3
-    ∷ laid (record { procs = newProcess 1 noIds noIds 0 (replicate 7 abort) ∷ []; rows = []; next = 2 })
     -- unused places
     ∷ record { procs = set (laid fresh .procs) 9 other; live = 1; table = laid fresh .table; next = 2 }
     ∷ record { procs = laid fresh .procs; live = 1; table = record { rows = set (laid fresh .table .rows) 9 (rowOfLength 1 1 x); used = 0 }; next = 2 }
     ∷ []
 
--- one tick from this state
-abbrev from : State → Answer → Case
-from s a = record { from = s; told = tick gets a ∷ []; leaves = λ m. true }
+-- this event alone, from this state
+abbrev oneEvent : Event → Answer → State → Case
+oneEvent e a s = record { from = s; told = e gets a ∷ []; leaves = λ m. true }
 
-unfoldable pub table : List Case
-table =
+unfoldable pub stories : List Case
+stories =
     -- (a) lock length 0: badcall
     story (named 0x3E A unshared 0 x gets refusal badcall ∷ [])
     -- (b) 17: badcall
@@ -277,6 +294,8 @@ table =
     ∷ unlock A x gets ok
     ∷ unlock B x gets moves 0b1000 0
     ∷ wakeReport D gets refusal asleep
+    ∷ takeTrap D gets refusal asleep
+    ∷ call 0x0F D 0 0 0 0 gets refusal asleep
     ∷ [])
     -- (h) deadlock; (i) B asks conditionally: locked
     ∷ story (crossed ++ lock B unshared x gets refusal deadlock ∷ lock B unsharedIf x gets refusal locked ∷ [])
@@ -298,12 +317,19 @@ table =
     ∷ tick gets moves 0b10 0
     ∷ wakeReport A gets gives 0 3
     ∷ call 0x3A A 0 0 0 0 gets refusal trap
+    ∷ call 0x0F A 0 0 0 0 gets refusal trap
     ∷ takeTrap A gets gives 5 0x1000
     ∷ takeTrap A gets ok
     ∷ onAlarm A 0 gets gives 0 1
     ∷ [])
-    -- (s1) "AB" and "ABC" differ; "AB" and "AB" do not
-    ∷ story (lock A unshared abc gets ok ∷ lock B unshared ab gets ok ∷ lock C unshared ab gets sleeping ∷ [])
+    -- (s1) "AB" and "ABC" differ; "AB", "AB" and the first two bytes of "ABC" do not
+    ∷ story
+    (lock A unshared abc gets ok
+    ∷ lock B unshared ab gets ok
+    ∷ lock C unshared ab gets sleeping
+    ∷ named 0x3E D unshared 2 abc gets sleeping
+    ∷ call 0x3A A 0 0 0 0 gets gives A 0
+    ∷ [])
     -- (s2) a new shared request waits behind an unshared waiter, and is refused where it is conditional
     ∷ story
     (lock A shared x gets ok
@@ -312,10 +338,16 @@ table =
     ∷ lock C shared x gets sleeping
     ∷ unlock A x gets moves 0b100 0
     ∷ [])
-    -- (s3) a child does not inherit its parent's trap: abort. It inherits ignore, and the masks decide where D1 has 1
+    -- (s3) a child does not inherit its parent's trap: abort. It inherits ignore, ids and priority, and the masks decide where D1 has 1
     ∷ story
     (onAlarm A 0x1000 gets gives 0 1
+    ∷ call 0x35 A 1 3 7 0 gets ok
+    ∷ call 0x37 A 1 3 8 0 gets ok
+    ∷ setPriority A 5 gets ok
     ∷ fshell A 0 0 gets gives 6 0
+    ∷ call 0x34 6 0 1 0 0 gets gives 7 0
+    ∷ call 0x36 6 0 1 0 0 gets gives 8 0
+    ∷ call 0x38 6 0 0 0 0 gets gives 5 0
     ∷ onAlarm 6 1 gets gives 0 0
     ∷ call 0x40 6 0 7 0 0 gets gives 0 1
     ∷ fshell A 0b10000 0b10000 gets gives 7 0
@@ -330,7 +362,7 @@ table =
     ∷ unlock C x gets moves 0b10 0
     ∷ unlock A x gets moves 0b100 0
     ∷ [])
-    -- (t1) the conditional forms of lock
+    -- (t1) the conditional forms of lock; arguments before held; a sequence must be named; unlock does not read D2
     ∷ story
     (lock A sharedIf x gets ok
     ∷ lock B sharedIf x gets ok
@@ -339,10 +371,17 @@ table =
     ∷ lock D sharedIf y gets refusal locked
     ∷ lock D 4 y gets refusal badcall
     ∷ lock A unsharedIf x gets refusal held
+    ∷ lock A 4 x gets refusal badcall
+    ∷ call 0x3E A 0 unshared 1 0 gets refusal badcall
+    ∷ call 0x3F A 0 0 1 0 gets refusal badcall
+    ∷ named 0x3F A 0 0 x gets refusal badcall
+    ∷ named 0x3F A 0 17 x gets refusal badcall
+    ∷ named 0x3F A 9 1 x gets ok
+    ∷ unlock A x gets refusal notlocked
     ∷ [])
     -- (t2) a full table: held, locked, deadlock, lcktable, in this order
     ∷ story
-    (fills 1 29
+    (fills 29
     ++ lock B unshared y gets ok
     ∷ lock C unshared x gets ok
     ∷ lock A unshared y gets sleeping
@@ -388,29 +427,44 @@ table =
     ∷ event 1 0x51 A 0 0 0 0 0 gets refusal notmodelled
     ∷ event 0 0x3A A 0 0 0 0 0 gets refusal badcall
     ∷ event 5 0x3A 99 0 0 0 0 0 gets refusal badcall
+    ∷ event 2 0xFF 99 9 9 9 9 9 gets ok
+    ∷ call 0x0F 99 0 0 0 0 gets refusal badcaller
     ∷ [])
     -- (t6) callers and targets; a kill of oneself; a timed sleep that a signal cuts short; PIDs are not used again
     ∷ story
     (call 0x3A 6 0 0 0 0 gets refusal badcaller
-    ∷ call 0x41 A 0 7 9 0 gets refusal noproc
+    ∷ takeTrap 6 gets refusal badcaller
+    ∷ wakeReport 6 gets refusal badcaller
     ∷ becomes A 100 gets ok
+    ∷ call 0x41 A 0 0 B 0 gets refusal badcall
+    ∷ call 0x41 A 0 8 B 0 gets refusal badcall
+    ∷ call 0x41 A 0 7 1 0 gets refusal badcall
+    ∷ call 0x41 A 0 7 65536 0 gets refusal badcall
+    ∷ call 0x41 A 0 7 65535 0 gets refusal noproc
     ∷ call 0x41 A 0 7 B 0 gets refusal priv
     ∷ call 0x40 B 0 7 0 0x3000 gets gives 0 1
-    ∷ sleep B 9 gets sleeping
+    ∷ sleep B 100000 gets sleeping
     ∷ tick gets ok
     ∷ call 0x41 1 0 7 B 0 gets moves 0b100 0
-    ∷ wakeReport B gets gives 8 2
+    ∷ wakeReport B gets gives 99999 2
+    ∷ takeTrap B gets gives 7 0x3000
+    ∷ lock C unshared x gets ok
+    ∷ lock B unshared x gets sleeping
+    ∷ unlock C x gets moves 0b100 0
+    ∷ wakeReport B gets gives 0 1
     ∷ call 0x41 A 0 3 A 0 gets ending 0 0b10
     ∷ call 0x46 1 0 0 0 0 gets refusal badcall
     ∷ fshell 1 0 0 gets gives 6 0
     ∷ [])
-    -- (t7) an exit takes all rows of the process, and the next of each sequence wakes
+    -- (t7) an exit takes all rows of the process, and the next of each sequence wakes; those behind it move up
     ∷ story
     (lock A unshared x gets ok
     ∷ lock A unshared y gets ok
     ∷ lock B unshared x gets sleeping
     ∷ lock C shared y gets sleeping
     ∷ call 0x46 A 0 0 0 0 gets ending 0b1100 0b10
+    ∷ lock D unshared y gets sleeping
+    ∷ unlock C y gets moves 0b1000 0
     ∷ [])
     -- (t8) who may signal: equal effective user ids, or privileged. Two traps pending: the lowest is taken first
     ∷ story
@@ -435,9 +489,20 @@ table =
     ∷ sleep A 1 gets sleeping
     ∷ tick gets moves 0 0b10
     ∷ [])
-    -- (t10) an alarm that rings into an ignored signal is off afterwards
-    ∷ story (alarm A 1 gets ok ∷ tick gets ok ∷ onAlarm A 0 gets gives 0 1 ∷ tick gets ok ∷ alarm A 1 gets ok ∷ tick gets moves 0 0b10 ∷ [])
-    -- (t13) ids: codes, ranges, and priv only for the value in D3
+    -- (t10) an alarm that rings into an ignored signal is off afterwards; a later alarm replaces an earlier one, and 0 turns it off
+    ∷ story (alarm A 1 gets ok ∷ tick gets ok ∷ onAlarm A 0 gets gives 0 1 ∷ tick gets ok ∷ [])
+    ∷ story
+    (onAlarm A 0 gets gives 0 1
+    ∷ alarm A 1 gets ok
+    ∷ alarm A 0 gets ok
+    ∷ tick gets ok
+    ∷ alarm A 1 gets ok
+    ∷ alarm A 3 gets ok
+    ∷ tick gets ok
+    ∷ tick gets ok
+    ∷ tick gets moves 0 0b10
+    ∷ [])
+    -- (t11) ids: codes, ranges, and priv only for the value in D3
     ∷ story
     (call 0x35 A 1 3 7 0 gets ok
     ∷ call 0x34 A 0 1 0 0 gets gives 7 0
@@ -445,15 +510,18 @@ table =
     ∷ call 0x37 A 2 3 65536 0 gets refusal badcall
     ∷ call 0x37 A 2 3 65535 0 gets ok
     ∷ call 0x36 A 0 2 0 0 gets gives 65535 0
+    ∷ call 0x37 A 0 1 0 0 gets ok
+    ∷ call 0x36 A 0 0 0 0 gets gives 0 0
     ∷ call 0x35 A 3 0 0 0 gets refusal badcall
     ∷ call 0x35 A 0 4 0 0 gets refusal badcall
     ∷ call 0x35 A 0 1 0 0 gets ok
     ∷ call 0x34 A 0 0 0 0 gets gives 7 0
     ∷ call 0x35 A 0 3 0 0 gets refusal priv
+    ∷ call 0x35 A 0 3 65536 0 gets refusal badcall
     ∷ call 0x35 A 0 2 70000 0 gets ok
     ∷ call 0x34 A 0 0 0 0 gets gives 0 0
     ∷ [])
-    -- (t14) a pause, which an ignored signal does not end; sleep 0; signals of process 1 and kill have no other reaction; masks of fshell
+    -- (t12) a pause, which an ignored signal does not end; sleep 0; signals of process 1 and kill have no other reaction; masks of fshell
     ∷ story
     (call 0x40 A 0 7 0 0x3000 gets gives 0 1
     ∷ sleep A 0 gets ok
@@ -462,7 +530,9 @@ table =
     ∷ call 0x41 1 0 7 A 0 gets moves 0b10 0
     ∷ wakeReport A gets gives 0 2
     ∷ call 0x40 1 0 5 0 0 gets refusal badcall
+    ∷ call 0x40 B 0 0 0 1 gets refusal badcall
     ∷ call 0x40 B 0 3 0 1 gets refusal badcall
+    ∷ call 0x40 B 0 8 0 1 gets refusal badcall
     ∷ fshell B 256 0 gets refusal badcall
     ∷ fshell B 0 256 gets refusal badcall
     ∷ fshell B 0b11111111 0b11111110 gets gives 6 0
@@ -470,15 +540,37 @@ table =
     ∷ call 0x40 6 0 2 0 0 gets gives 0 1
     ∷ call 0x41 1 0 3 6 0 gets moves 0 0b100000
     ∷ [])
-    -- (t11) sixteen live processes, and no memory for one more
+    -- (t13) falling asleep leaves the last wake as it was
+    ∷ storyThen (λ m. eqb (processOf m A .rest .wake) byTime) (sleep A 1 gets sleeping ∷ tick gets moves 0b10 0 ∷ call 0x44 A 0 0 0 0 gets sleeping ∷ [])
+    -- (t14) sixteen live processes, and no memory for one more
     ∷ storyThen (λ m. eqb (length (m .procs)) 16)
     (map (λ n. fshell 1 0 0 gets gives n 0) (6 ∷ 7 ∷ 8 ∷ 9 ∷ 10 ∷ 11 ∷ 12 ∷ 13 ∷ 14 ∷ 15 ∷ 16 ∷ [])
     ++ fshell 1 0 0 gets refusal nomemory
+    ∷ fshell 1 256 0 gets refusal badcall
     ∷ [])
-    -- (t12) a sound state, and states with one fact broken
-    ∷ from (two other (holding x) 3) ok
-    ∷ map (λ s. from s (refusal badstate)) broken
+    ∷ []
+
+unfoldable pub states : List Case
+states =
+    -- (t15) the last PID
+    record { from = two other [] 65535; told = fshell 1 0 0 gets gives 65535 0 ∷ fshell 1 0 0 gets refusal nomemory ∷ []; leaves = λ m. true }
+    -- (t16) sound states, and states with one fact broken, before the event's kind is looked at
+    ∷ oneEvent tick ok (two other (holding x) 3)
+    ∷ oneEvent tick ok (crowd 16)
+    ∷ oneEvent tick ok (pile 32)
+    ∷ oneEvent (event 0 0 0 0 0 0 0 0) (refusal badstate) (crowd 0)
+    ∷ map (oneEvent tick (refusal badstate)) (broken ++ map hearing (1 ∷ 2 ∷ 4 ∷ 5 ∷ 6 ∷ 7 ∷ []))
+
+unfoldable pub table : List Case
+table = stories ++ states
 
 -- "Proved of the definitions, as a single statement across one table"
 abbrev pub WorkedCases : Type 0
 WorkedCases = map comes table ≡ map should table
+
+-- "No. | Name", the refusals of events in the order of the table
+abbrev pub RefusalNumbers : Type 0
+RefusalNumbers =
+    map numberOf
+    (badstate ∷ badcaller ∷ asleep ∷ trap ∷ badcall ∷ notmodelled ∷ priv ∷ noproc ∷ nomemory ∷ held ∷ locked ∷ deadlock ∷ lcktable ∷ notlocked ∷ [])
+    ≡ 1 ∷ 2 ∷ 3 ∷ 4 ∷ 5 ∷ 6 ∷ 7 ∷ 8 ∷ 9 ∷ 10 ∷ 11 ∷ 12 ∷ 13 ∷ 14 ∷ []
