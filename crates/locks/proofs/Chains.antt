@@ -84,12 +84,17 @@ of-link rows a b l =
 
 -- ---- the chain as a test
 
-pub joined : {rows : List Row} {a b c : ℕ} → Chain rows a b → Chain rows b c → Chain rows a c
+pub joined : {L : ℕ → ℕ → Type 0} {a b c : ℕ} → Chain L a b → Chain L b c → Chain L a c
 joined (one l) d = more l d
 joined (more l c) d = more l (joined c d)
 
+-- a chain of other links, where each link is one of them
+pub chain-map : {L M : ℕ → ℕ → Type 0} → ((a b : ℕ) → L a b → M a b) → {a b : ℕ} → Chain L a b → Chain M a b
+chain-map f {a} {b} (one l) = one (f a b l)
+chain-map f {a} {b = c} (more {b = b} l d) = more (f a b l) (chain-map f d)
+
 -- a link with nothing or a chain before it, and nothing or a chain behind it
-around : {rows : List Row} (a b u v : ℕ) → (a ≡ u) ⊎ Chain rows a u → Link rows u v → (v ≡ b) ⊎ Chain rows v b → Chain rows a b
+around : {L : ℕ → ℕ → Type 0} (a b u v : ℕ) → (a ≡ u) ⊎ Chain L a u → L u v → (v ≡ b) ⊎ Chain L v b → Chain L a b
 around a b u v (inl e) l (inl f) = rw (e, ← f) (one l)
 around a b u v (inl e) l (inr d) = rw e (more l d)
 around a b u v (inr c) l (inl f) = rw (← f) (joined c (one l))
@@ -98,7 +103,7 @@ around a b u v (inr c) l (inr d) = joined c (more l d)
 same-or : {P : Type 0} (a b : ℕ) (t : Bool) → (t ≡ true → P) → (eqb a b || t) ≡ true → (a ≡ b) ⊎ P
 same-or a b t f h = or-elim (eqb a b) t (λ e. inl (eqb-true a b e)) (λ e. inr (f e)) h
 
-chained-chain : (rows : List Row) (ls : List (ℕ × ℕ)) → ((a b : ℕ) → linked ls a b ≡ true → Link rows a b) → (a b : ℕ) → chained ls a b ≡ true → Chain rows a b
+chained-chain : (rows : List Row) (ls : List (ℕ × ℕ)) → ((a b : ℕ) → linked ls a b ≡ true → Link rows a b) → (a b : ℕ) → chained ls a b ≡ true → Chain (Link rows) a b
 unfolding chained
 chained-chain rows [] real a b h = absurd (false≢true h)
 chained-chain rows (l ∷ ls) real a b h =
@@ -158,7 +163,7 @@ unfolding chained
 chained-trans [] a b c h k = h
 chained-trans (l ∷ ls) a b c h k = grown-trans (chained ls) (l .0) (l .1) (chained-trans ls) a b c h k
 
-chain-chained : (rows : List Row) (a b : ℕ) → Chain rows a b → chained (links [] rows) a b ≡ true
+chain-chained : (rows : List Row) (a b : ℕ) → Chain (Link rows) a b → chained (links [] rows) a b ≡ true
 chain-chained rows a b (one l) = linked-chained (links [] rows) a b (of-link rows a b l)
 chain-chained rows a c (more {b = b} l d) =
     chained-trans (links [] rows) a b c (linked-chained (links [] rows) a b (of-link rows a b l)) (chain-chained rows b c d)

@@ -3,6 +3,9 @@ pub mod Lists
 pub mod Fewer
 pub mod Loops
 pub mod Tables
+pub mod Drawn
+pub mod Opened
+pub mod Found
 pub mod Chains
 pub mod Rings
 pub mod Cases

@@ -12,7 +12,7 @@ use Rattle.locks.specs.declared.rows.Row.{Row}
 use Rattle.locks.proofs.Tests.{and-split, or-right, or-elim, or-mono}
 use Rattle.locks.proofs.Lists.{any-mono}
 use Rattle.locks.proofs.Fewer.{Fewer, nil, kept, gone, fewer-any, fewer-end, fewer-end-gone}
-use Rattle.locks.proofs.Chains.{linked, blocks, linked-cons, to-link, of-link, joined, deadlock-exact}
+use Rattle.locks.proofs.Chains.{linked, blocks, linked-cons, to-link, of-link, joined, chain-map, deadlock-exact}
 
 -- ---- rows go
 
@@ -25,12 +25,8 @@ fewer-linked a b {cs} {bs} t (kept {x = r} {xs = xs} {ys = ys} u) h =
     (fewer-any (blocks a b r) t) (fewer-linked a b (fewer-end r t) u) (rw linked-cons at h))
 fewer-linked a b {cs} {bs} t (gone {x = r} u) h = rw linked-cons (or-right (any (blocks a b r) bs) _ (fewer-linked a b (fewer-end-gone r t) u h))
 
-fewer-chain : {xs ys : List Row} → Fewer xs ys → {a b : ℕ} → Chain xs a b → Chain ys a b
-fewer-chain {xs} {ys} t {a} {b} (one l) = one (to-link ys a b (fewer-linked a b nil t (of-link xs a b l)))
-fewer-chain {xs} {ys} t {a} {b = c} (more {b = b} l d) = more (to-link ys a b (fewer-linked a b nil t (of-link xs a b l))) (fewer-chain t d)
-
 pub fewer-free : {xs ys : List Row} → Fewer xs ys → RingFree ys → RingFree xs
-fewer-free t y = record { none = λ a c. y .none a (fewer-chain t c) }
+fewer-free {xs} {ys} t y = record { none = λ a c. y .none a (chain-map (λ a b l. to-link ys a b (fewer-linked a b nil t (of-link xs a b l))) c) }
 
 -- ---- a row comes
 
@@ -43,7 +39,7 @@ linked-end a b ahead (q ∷ rows) r =
 
 module _ (rows : List Row) (r : Row) where
   abbrev Long : ℕ → ℕ → Type 0
-  Long a b = Chain (rows ++ r ∷ []) a b
+  Long a b = Chain (Link (rows ++ r ∷ [])) a b
 
   -- from a, the new row's owner, who then waits; or by way of that owner
   abbrev Passes : ℕ → ℕ → Type 0
@@ -68,15 +64,15 @@ module _ (rows : List Row) (r : Row) where
           always false (x ∷ xs) h = always false xs h
 
   -- a chain is an old one, or passes the new row
-  passes : {a b : ℕ} → Long a b → Chain rows a b ⊎ Passes a b
+  passes : {a b : ℕ} → Long a b → Chain (Link rows) a b ⊎ Passes a b
   passes {a} {b} (one l) = go (new-link a b l)
     where
-      go : Link rows a b ⊎ ((a ≡ r .owner) × (waits rows r ≡ true)) → Chain rows a b ⊎ Passes a b
+      go : Link rows a b ⊎ ((a ≡ r .owner) × (waits rows r ≡ true)) → Chain (Link rows) a b ⊎ Passes a b
       go (inl k) = inl (one k)
       go (inr k) = inr (inl (k .0), subst (λ (x : ℕ). Long x b) (k .0) (one l), k .1)
   passes {a} {b = c} (more {b = b} l d) = go (new-link a b l) (passes d)
     where
-      go : Link rows a b ⊎ ((a ≡ r .owner) × (waits rows r ≡ true)) → Chain rows b c ⊎ Passes b c → Chain rows a c ⊎ Passes a c
+      go : Link rows a b ⊎ ((a ≡ r .owner) × (waits rows r ≡ true)) → Chain (Link rows) b c ⊎ Passes b c → Chain (Link rows) a c ⊎ Passes a c
       go (inr k) p = inr (inl (k .0), subst (λ (x : ℕ). Long x c) (k .0) (more l d), k .1)
       go (inl k) (inl p) = inl (more k p)
       go (inl k) (inr (inl e, p, w)) = inr (inr (subst (λ (x : ℕ). Long a x) e (one l)), p, w)
@@ -89,7 +85,7 @@ module _ (rows : List Row) (r : Row) where
       back : waits rows r ≡ true → Long (r .owner) (r .owner) → ⊥
       back w c = true≢false (sym (deadlock-exact rows r .1 c) ∙ safe w)
 
-      go : (a : ℕ) → Chain rows a a ⊎ Passes a a → ⊥
+      go : (a : ℕ) → Chain (Link rows) a a ⊎ Passes a a → ⊥
       go a (inl c) = y .none a c
       go a (inr (inl e, p, w)) = back w (subst (λ (x : ℕ). Long (r .owner) x) e p)
       go a (inr (inr f, p, w)) = back w (joined p f)

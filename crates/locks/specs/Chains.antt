@@ -20,14 +20,14 @@ pub record Link (rows : List Row) (a b : ℕ) : Type 0 where
   pub from : getD rows row noRow .owner ≡ a
   pub to : getD rows other noRow .owner ≡ b
 
--- a chain of one link or more
-pub data Chain (rows : List Row) : ℕ → ℕ → Type 0 where
-  one : {a b : ℕ} → Link rows a b → Chain rows a b
-  more : {a b c : ℕ} → Link rows a b → Chain rows b c → Chain rows a c
+-- a chain of one such link or more
+pub data Chain (L : ℕ → ℕ → Type 0) : ℕ → ℕ → Type 0 where
+  one : {a b : ℕ} → L a b → Chain L a b
+  more : {a b c : ℕ} → L a b → Chain L b c → Chain L a c
 
 -- no chain leads back to where it began
 pub record RingFree (rows : List Row) : Type 0 where
-  pub none : (a : ℕ) → Chain rows a a → ⊥
+  pub none : (a : ℕ) → Chain (Link rows) a a → ⊥
 
 -- ---- the test
 
@@ -47,7 +47,7 @@ leadsBack rows r = chained (links [] (rows ++ r ∷ [])) (r .owner) (r .owner)
 
 -- "Deadlock is given exactly when a chain leads from the new row back to its caller."
 abbrev pub DeadlockExact : Type 0
-DeadlockExact = (rows : List Row) (r : Row) → (leadsBack rows r ≡ true) ↔ Chain (rows ++ r ∷ []) (r .owner) (r .owner)
+DeadlockExact = (rows : List Row) (r : Row) → (leadsBack rows r ≡ true) ↔ Chain (Link (rows ++ r ∷ [])) (r .owner) (r .owner)
 
 -- The caller is awake, so it has no other waiting row: a chain from the caller begins with the new row.
 abbrev pub FromNewRow : Type 0

@@ -115,7 +115,7 @@ fresh-free = record { none = λ a c. no-chain c }
     no-link : {a b : ℕ} → Link [] a b → ⊥
     no-link l = not-suc-le-zero (l .stands)
 
-    no-chain : {a b : ℕ} → Chain [] a b → ⊥
+    no-chain : {a b : ℕ} → Chain (Link []) a b → ⊥
     no-chain (one l) = no-link l
     no-chain (more l c) = no-link l
 

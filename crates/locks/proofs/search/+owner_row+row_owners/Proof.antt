@@ -1,0 +1,451 @@
+-- The proof of the cycle of calls {owner_row, row_owners}. The measures are made of the count of the processes not yet opened: twice that for
+-- `owner_row`, which opens one before it calls `row_owners`, and one more for `row_owners`. Assumes nothing.
+use borrow.Fn.Kinds.{In}
+use borrow.Fn.PlainCycle.{Measures, is, falls, and}
+use Rattle.locks.proofs.search.owner_row.Reads as owner-row
+use Rattle.locks.proofs.search.owner_row.Kinds as owner-row-kinds
+use Rattle.locks.proofs.search.+owner_row+row_owners.Lts-owner_row as owner-row-lts
+use Rattle.locks.proofs.search.row_owners.Reads as row-owners
+use Rattle.locks.proofs.search.row_owners.Kinds as row-owners-kinds
+use Rattle.locks.proofs.search.+owner_row+row_owners.Lts-row_owners as row-owners-lts
+use Rattle.locks.proofs.search.closes.Reads as closes-reads
+use Rattle.locks.proofs.search.place.Reads as place-reads
+use Rattle.locks.proofs.search.+owner_row+row_owners.{statement}
+use Rattle.locks.proofs.search.+owner_row+row_owners.Tie.{close}
+use borrow.Author.Needs.{needs}
+use Prim.Native.Nat.{ℕ, _+_, _*_, _-_, _<_, _≤_}
+use native.Mathlib.Omega.{arith}
+use mathlib.Core.Path.{_≡_, refl, sym, _∙_}
+use mathlib.Core.List.{List}
+use mathlib.Core.Bool.{Bool, true, true≢false, false≢true}
+use mathlib.Core.Logic.{⊎-elim}
+use lib.ListN.{length, getD, set}
+use Rattle.locks.specs.Chains.{one, more}
+use Rattle.locks.specs.Search.{inWay, RowLeads}
+use Rattle.locks.proofs.Opened.{shut, shut-set, place-le, place-fits, grown-refl, grown-shut, opened-in, opening, Toured, tour-start, tour-past, tour-on}
+
+-- row v is p's and leads to q
+abbrev OwnLeads : List ℕ → List Bool → ℕ → ℕ → ℕ → Type 0
+OwnLeads owners ways p v q = (getD owners v 0 ≡ p) × RowLeads owners ways v q
+
+-- row b, which is q's, is in the way of row w
+abbrev Beside : List ℕ → List Bool → ℕ → ℕ → ℕ → Type 0
+Beside owners ways w b q = (inWay ways w b ≡ true) × (getD owners b 0 ≡ q)
+
+abbrev μ-owner-row : Measures 1 owner-row-kinds.ps ℕ
+μ-owner-row κs a = 2 * shut (a .1 .1 .1 .1 .0)
+
+abbrev μ-row-owners : Measures 1 row-owners-kinds.ps ℕ
+μ-row-owners κs a = 2 * shut (a .1 .1 .1 .1 .0) + 1
+
+abbrev owner-row-at : ℕ → In 1 owner-row-kinds.ps
+owner-row-at t = and 1 owner-row-kinds.ps (is 1 owner-row-kinds.ps μ-owner-row t) owner-row.Pre
+
+abbrev owner-row-below : ℕ → In 1 owner-row-kinds.ps
+owner-row-below t =
+    and 1 owner-row-kinds.ps (falls 1 owner-row-kinds.ps _<_ μ-owner-row t) owner-row.Pre
+
+abbrev row-owners-at : ℕ → In 1 row-owners-kinds.ps
+row-owners-at t =
+    and 1 row-owners-kinds.ps (is 1 row-owners-kinds.ps μ-row-owners t) row-owners.Pre
+
+abbrev row-owners-below : ℕ → In 1 row-owners-kinds.ps
+row-owners-below t =
+    and 1 row-owners-kinds.ps (falls 1 row-owners-kinds.ps _<_ μ-row-owners t) row-owners.Pre
+
+abbrev owner-row-Inv-loop : owner-row-lts.InvT-loop
+owner-row-Inv-loop owners ways c a p k now-open₀ w₀ now-open w = (w ≤ 33) × Toured owners ways c (OwnLeads owners ways p) w now-open₀ now-open
+
+abbrev owner-row-μ-loop : owner-row-lts.MeasureT-loop
+owner-row-μ-loop owners ways c a p k now-open₀ w₀ now-open w = 33 - w
+
+-- src/search.rt:127:13
+owner-row-mul-p : (t : ℕ) → owner-row-lts.Need-mul-p (
+  place-reads.Asked,
+  place-reads.Learnt,
+  closes-reads.Asked,
+  closes-reads.Learnt,
+  row-owners-below t,
+  row-owners.Post,
+) (owner-row-at t) owner-row.Post owner-row-Inv-loop owner-row-μ-loop
+owner-row-mul-p t c = search needs
+
+-- src/search.rt:127:13
+owner-row-element-copy-out-p : (t : ℕ) → owner-row-lts.Need-element-copy-out-p (
+  place-reads.Asked,
+  place-reads.Learnt,
+  closes-reads.Asked,
+  closes-reads.Learnt,
+  row-owners-below t,
+  row-owners.Post,
+) (owner-row-at t) owner-row.Post owner-row-Inv-loop owner-row-μ-loop
+owner-row-element-copy-out-p t c = search needs
+
+-- src/search.rt:128:9
+owner-row-place-requires : (t : ℕ) → owner-row-lts.Need-place-requires (
+  place-reads.Asked,
+  place-reads.Learnt,
+  closes-reads.Asked,
+  closes-reads.Learnt,
+  row-owners-below t,
+  row-owners.Post,
+) (owner-row-at t) owner-row.Post owner-row-Inv-loop owner-row-μ-loop
+owner-row-place-requires t c κs = search needs
+
+-- src/search.rt:130:8
+owner-row-array-read-if1 : (t : ℕ) → owner-row-lts.Need-array-read-if1 (
+  place-reads.Asked,
+  place-reads.Learnt,
+  closes-reads.Asked,
+  closes-reads.Learnt,
+  row-owners-below t,
+  row-owners.Post,
+) (owner-row-at t) owner-row.Post owner-row-Inv-loop owner-row-μ-loop
+owner-row-array-read-if1 t c =
+    let s = c .before .before in
+    let h = place-le (s .args .owners .now) (getD (s .args .owners .now) (s .args .a) 0) (s .args .a) refl (s .pre .1) in
+    omega (arith, c .place .ensures, s .pre .1)
+
+-- src/search.rt:131:9
+owner-row-returns : (t : ℕ) → owner-row-lts.Need-returns (
+  place-reads.Asked,
+  place-reads.Learnt,
+  closes-reads.Asked,
+  closes-reads.Learnt,
+  row-owners-below t,
+  row-owners.Post,
+) (owner-row-at t) owner-row.Post owner-row-Inv-loop owner-row-μ-loop
+owner-row-returns t c =
+    record {
+      back = λ e. absurd (false≢true e);
+      grown = λ _. grown-refl (search needs);
+      had = λ _ q e. rw (← e, ← c .before .place .ensures) (c .if1 .taken);
+    }
+
+-- src/search.rt:136:5
+owner-row-array-write-now-open : (t : ℕ) → owner-row-lts.Need-array-write-now-open (
+  place-reads.Asked,
+  place-reads.Learnt,
+  closes-reads.Asked,
+  closes-reads.Learnt,
+  row-owners-below t,
+  row-owners.Post,
+) (owner-row-at t) owner-row.Post owner-row-Inv-loop owner-row-μ-loop
+owner-row-array-write-now-open t c =
+    let s = c .before .before .before in
+    let h = place-le (s .args .owners .now) (getD (s .args .owners .now) (s .args .a) 0) (s .args .a) refl (s .pre .1) in
+    omega (arith, c .before .place .ensures, s .pre .1)
+
+-- src/search.rt:137:8
+owner-row-closes-requires : (t : ℕ) → owner-row-lts.Need-closes-requires (
+  place-reads.Asked,
+  place-reads.Learnt,
+  closes-reads.Asked,
+  closes-reads.Learnt,
+  row-owners-below t,
+  row-owners.Post,
+) (owner-row-at t) owner-row.Post owner-row-Inv-loop owner-row-μ-loop
+owner-row-closes-requires t c κs = search needs
+
+-- src/search.rt:138:9
+owner-row-returns-2 : (t : ℕ) → owner-row-lts.Need-returns-2 (
+  place-reads.Asked,
+  place-reads.Learnt,
+  closes-reads.Asked,
+  closes-reads.Learnt,
+  row-owners-below t,
+  row-owners.Post,
+) (owner-row-at t) owner-row.Post owner-row-Inv-loop owner-row-μ-loop
+owner-row-returns-2 t c =
+    record {
+      back = λ _. one (c .before .closes .ensures .0 (c .if2 .taken));
+      grown = λ e. absurd (true≢false e);
+      had = λ e. absurd (true≢false e);
+    }
+
+-- src/search.rt:144:5
+owner-row-loop-holds : (t : ℕ) → owner-row-lts.Need-loop-holds (
+  place-reads.Asked,
+  place-reads.Learnt,
+  closes-reads.Asked,
+  closes-reads.Learnt,
+  row-owners-below t,
+  row-owners.Post,
+) (owner-row-at t) owner-row.Post owner-row-Inv-loop owner-row-μ-loop
+owner-row-loop-holds t c = (search needs, tour-start (search needs))
+
+-- src/search.rt:145:12
+owner-row-mul-if3 : (t : ℕ) → owner-row-lts.Need-mul-if3 (
+  place-reads.Asked,
+  place-reads.Learnt,
+  closes-reads.Asked,
+  closes-reads.Learnt,
+  row-owners-below t,
+  row-owners.Post,
+) (owner-row-at t) owner-row.Post owner-row-Inv-loop owner-row-μ-loop
+owner-row-mul-if3 t c = search needs
+
+-- src/search.rt:145:12
+owner-row-element-copy-out-if3 : (t : ℕ) → owner-row-lts.Need-element-copy-out-if3 (
+  place-reads.Asked,
+  place-reads.Learnt,
+  closes-reads.Asked,
+  closes-reads.Learnt,
+  row-owners-below t,
+  row-owners.Post,
+) (owner-row-at t) owner-row.Post owner-row-Inv-loop owner-row-μ-loop
+owner-row-element-copy-out-if3 t c = search needs
+
+-- src/search.rt:146:17
+owner-row-row-owners-requires : (t : ℕ) → owner-row-lts.Need-row-owners-requires (
+  place-reads.Asked,
+  place-reads.Learnt,
+  closes-reads.Asked,
+  closes-reads.Learnt,
+  row-owners-below t,
+  row-owners.Post,
+) (owner-row-at t) owner-row.Post owner-row-Inv-loop owner-row-μ-loop
+owner-row-row-owners-requires t c κs =
+    let l = c .before .before .before in
+    let k = l .before .before .before in
+    let s = k .before .before .before in
+    let n : length (s .args .opened) ≡ 33 = search needs in
+    let m : length (set (s .args .opened) (k .before .place .result) true) ≡ 33 = search needs in
+    let f = place-fits (s .args .owners .now) (s .args .a) (k .before .place .result) (s .args .opened) (s .pre .1) (k .before .place .ensures) n in
+    let h = grown-shut m (l .loop .inv .1 .grown) in
+    let d = shut-set (s .args .opened) (k .before .place .result) f (k .if1 .left) in
+    (omega (arith, s .pre .0), c .before .before .loop-test .taken)
+
+-- src/search.rt:148:17
+owner-row-returns-3 : (t : ℕ) → owner-row-lts.Need-returns-3 (
+  place-reads.Asked,
+  place-reads.Learnt,
+  closes-reads.Asked,
+  closes-reads.Learnt,
+  row-owners-below t,
+  row-owners.Post,
+) (owner-row-at t) owner-row.Post owner-row-Inv-loop owner-row-μ-loop
+owner-row-returns-3 t c =
+    record {
+      back = λ e. rw (← c .before .before .if3 .taken) (c .before .row-owners .ensures .back e);
+      grown = λ e. absurd (true≢false (sym (c .if4 .taken) ∙ e));
+      had = λ e. absurd (true≢false (sym (c .if4 .taken) ∙ e));
+    }
+
+-- src/search.rt:153:9
+owner-row-add-w : (t : ℕ) → owner-row-lts.Need-add-w (
+  place-reads.Asked,
+  place-reads.Learnt,
+  closes-reads.Asked,
+  closes-reads.Learnt,
+  row-owners-below t,
+  row-owners.Post,
+) (owner-row-at t) owner-row.Post owner-row-Inv-loop owner-row-μ-loop
+owner-row-add-w t c = search needs
+
+-- src/search.rt:144:5
+owner-row-loop-less : (t : ℕ) → owner-row-lts.Need-loop-less (
+  place-reads.Asked,
+  place-reads.Learnt,
+  closes-reads.Asked,
+  closes-reads.Learnt,
+  row-owners-below t,
+  row-owners.Post,
+) (owner-row-at t) owner-row.Post owner-row-Inv-loop owner-row-μ-loop
+owner-row-loop-less t c = search needs
+
+-- src/search.rt:144:5
+owner-row-loop-again : (t : ℕ) → owner-row-lts.Need-loop-again (
+  place-reads.Asked,
+  place-reads.Learnt,
+  closes-reads.Asked,
+  closes-reads.Learnt,
+  row-owners-below t,
+  row-owners.Post,
+) (owner-row-at t) owner-row.Post owner-row-Inv-loop owner-row-μ-loop
+owner-row-loop-again t c = (search needs, ⊎-elim (λ z. tour-on (c .before .before .before .loop .inv .1) (z .1 .ensures) (z .2 .left) (λ q h. h .1) (z .4)) (λ z. tour-past (c .before .before .before .loop .inv .1) (λ q h. z .0 .left (h .0)) (z .1)) (c .if3 .came))
+
+-- src/search.rt:123:1
+owner-row-returns-4 : (t : ℕ) → owner-row-lts.Need-returns-4 (
+  place-reads.Asked,
+  place-reads.Learnt,
+  closes-reads.Asked,
+  closes-reads.Learnt,
+  row-owners-below t,
+  row-owners.Post,
+) (owner-row-at t) owner-row.Post owner-row-Inv-loop owner-row-μ-loop
+owner-row-returns-4 t c =
+    let inv = c .before .loop .inv in
+    let k = c .before .before .before .before .before in
+    let s = k .before .before in
+    let n : length (s .args .opened) ≡ 33 = search needs in
+    let f = place-fits (s .args .owners .now) (s .args .a) (k .place .result) (s .args .opened) (s .pre .1) (k .place .ensures) n in
+    let g = inv .1 .grown in
+    record {
+      back = λ e. absurd (false≢true e);
+      grown = λ _. opening (s .args .owners .now) (s .args .ways .now) (s .args .c) _ (k .place .result) (s .args .a) (s .args .opened) (k .place .ensures) refl f g (s .pre .1) (λ l. true≢false (sym (c .before .before .before .closes .ensures .1 l) ∙ c .before .before .if2 .left)) (λ v l e q h. inv .1 .opens v (omega (arith, c .loop-test .left)) q (e, h));
+      had = λ _ q e. rw (← e) (opened-in (s .args .owners .now) (s .args .ways .now) (s .args .c) _ (k .place .result) (s .args .a) (s .args .opened) (k .place .ensures) refl f g);
+    }
+
+abbrev row-owners-Inv-loop : row-owners-lts.InvT-loop
+row-owners-Inv-loop owners ways c w now-open₀ a₀ now-open a = (a ≤ w) × Toured owners ways c (Beside owners ways w) a now-open₀ now-open
+
+abbrev row-owners-μ-loop : row-owners-lts.MeasureT-loop
+row-owners-μ-loop owners ways c w now-open₀ a₀ now-open a = w - a
+
+-- src/search.rt:105:5
+row-owners-loop-holds : (t : ℕ) → row-owners-lts.Need-loop-holds (
+  owner-row-below t,
+  owner-row.Post,
+) (row-owners-at t) row-owners.Post row-owners-Inv-loop row-owners-μ-loop
+row-owners-loop-holds t c = (search needs, tour-start (search needs))
+
+-- src/search.rt:106:17
+row-owners-mul-if1 :
+    (t : ℕ) →
+    row-owners-lts.Need-mul-if1
+    (owner-row-below t, owner-row.Post)
+    (row-owners-at t)
+    row-owners.Post
+    row-owners-Inv-loop
+    row-owners-μ-loop
+row-owners-mul-if1 t c = search needs
+
+-- src/search.rt:106:17
+row-owners-add-if1 :
+    (t : ℕ) →
+    row-owners-lts.Need-add-if1
+    (owner-row-below t, owner-row.Post)
+    (row-owners-at t)
+    row-owners.Post
+    row-owners-Inv-loop
+    row-owners-μ-loop
+row-owners-add-if1 t c = search needs
+
+-- src/search.rt:106:12
+row-owners-element-copy-out-if1 : (t : ℕ) → row-owners-lts.Need-element-copy-out-if1 (
+  owner-row-below t,
+  owner-row.Post,
+) (row-owners-at t) row-owners.Post row-owners-Inv-loop row-owners-μ-loop
+row-owners-element-copy-out-if1 t c = search needs
+
+-- src/search.rt:107:17
+row-owners-owner-row-requires : (t : ℕ) → row-owners-lts.Need-owner-row-requires (
+  owner-row-below t,
+  owner-row.Post,
+) (row-owners-at t) row-owners.Post row-owners-Inv-loop row-owners-μ-loop
+row-owners-owner-row-requires t c κs =
+    let l = c .before .before .before in
+    let n : length (l .before .args .opened) ≡ 33 = search needs in
+    let h = grown-shut n (l .loop .inv .1 .grown) in
+    (omega (arith, l .before .pre .0), omega (arith, l .before .pre .1, l .loop .inv .0, c .before .before .loop-test .taken))
+
+-- src/search.rt:109:17
+row-owners-returns :
+    (t : ℕ) →
+    row-owners-lts.Need-returns
+    (owner-row-below t, owner-row.Post)
+    (row-owners-at t)
+    row-owners.Post
+    row-owners-Inv-loop
+    row-owners-μ-loop
+row-owners-returns t c =
+    let s = c .before .before .before .before .before in
+    record {
+      back = λ e. more (record { row = s .before .args .w; stands = s .before .pre .1; from = refl; on = record { other = s .loop .a; ahead = c .before .before .before .before .loop-test .taken; blocks = c .before .before .if1 .taken; to = refl } }) (c .before .owner-row .ensures .back e);
+      grown = λ e. absurd (true≢false (sym (c .if2 .taken) ∙ e));
+      had = λ e. absurd (true≢false (sym (c .if2 .taken) ∙ e));
+    }
+
+-- src/search.rt:114:9
+row-owners-add-a :
+    (t : ℕ) →
+    row-owners-lts.Need-add-a
+    (owner-row-below t, owner-row.Post)
+    (row-owners-at t)
+    row-owners.Post
+    row-owners-Inv-loop
+    row-owners-μ-loop
+row-owners-add-a t c = search needs
+
+-- src/search.rt:105:5
+row-owners-loop-less :
+    (t : ℕ) →
+    row-owners-lts.Need-loop-less
+    (owner-row-below t, owner-row.Post)
+    (row-owners-at t)
+    row-owners.Post
+    row-owners-Inv-loop
+    row-owners-μ-loop
+row-owners-loop-less t c = search needs
+
+-- src/search.rt:105:5
+row-owners-loop-again : (t : ℕ) → row-owners-lts.Need-loop-again (
+  owner-row-below t,
+  owner-row.Post,
+) (row-owners-at t) row-owners.Post row-owners-Inv-loop row-owners-μ-loop
+row-owners-loop-again t c = (search needs, ⊎-elim (λ z. tour-on (c .before .before .before .loop .inv .1) (z .1 .ensures) (z .2 .left) (λ q h. h .1) (z .4)) (λ z. tour-past (c .before .before .before .loop .inv .1) (λ q h. false≢true (sym (z .0 .left) ∙ h .0)) (z .1)) (c .if1 .came))
+
+-- src/search.rt:99:1
+row-owners-returns-2 :
+    (t : ℕ) →
+    row-owners-lts.Need-returns-2
+    (owner-row-below t, owner-row.Post)
+    (row-owners-at t)
+    row-owners.Post
+    row-owners-Inv-loop
+    row-owners-μ-loop
+row-owners-returns-2 t c =
+    let inv = c .before .loop .inv in
+    record {
+      back = λ e. absurd (false≢true e);
+      grown = λ _. inv .1 .grown;
+      had = λ _ q h. inv .1 .opens (h .other) (omega (arith, h .ahead, c .loop-test .left)) q (h .blocks, h .to);
+    }
+
+pub +owner-row+row-owners-spec : {M : Type 1} → statement M
++owner-row+row-owners-spec = close μ-owner-row μ-row-owners (λ t. owner-row-lts.spec (
+  place-reads.Asked,
+  place-reads.Learnt,
+  closes-reads.Asked,
+  closes-reads.Learnt,
+  row-owners-below t,
+  row-owners.Post,
+)
+    (owner-row-at t)
+    owner-row.Post
+    owner-row-Inv-loop
+    owner-row-μ-loop
+    (owner-row-mul-p t)
+    (owner-row-element-copy-out-p t)
+    (owner-row-place-requires t)
+    (owner-row-array-read-if1 t)
+    (owner-row-returns t)
+    (owner-row-array-write-now-open t)
+    (owner-row-closes-requires t)
+    (owner-row-returns-2 t)
+    (owner-row-loop-holds t)
+    (owner-row-mul-if3 t)
+    (owner-row-element-copy-out-if3 t)
+    (owner-row-row-owners-requires t)
+    (owner-row-returns-3 t)
+    (owner-row-add-w t)
+    (owner-row-loop-less t)
+    (owner-row-loop-again t)
+    (owner-row-returns-4 t))
+    λ t. row-owners-lts.spec
+    (owner-row-below t, owner-row.Post)
+    (row-owners-at t)
+    row-owners.Post
+    row-owners-Inv-loop
+    row-owners-μ-loop
+    (row-owners-loop-holds t)
+    (row-owners-mul-if1 t)
+    (row-owners-add-if1 t)
+    (row-owners-element-copy-out-if1 t)
+    (row-owners-owner-row-requires t)
+    (row-owners-returns t)
+    (row-owners-add-a t)
+    (row-owners-loop-less t)
+    (row-owners-loop-again t)
+    (row-owners-returns-2 t)

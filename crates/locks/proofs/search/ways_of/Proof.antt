@@ -1,0 +1,133 @@
+-- `locks::search::ways_of` meets its contract: this is drawn of the rows before w, and of row w against those before a. Assumes nothing.
+use Rattle.locks.proofs.search.ways_of.Statement.{statement}
+use Rattle.locks.proofs.search.ways_of.Tie as tie
+use borrow.Author.Needs.{needs}
+use Prim.Native.Nat.{_+_, _-_, _≤_, _<_}
+use native.Mathlib.Omega.{arith}
+use mathlib.Core.Path.{_≡_, sym, _∙_}
+use mathlib.Core.List.{[], _∷_, _++_}
+use mathlib.Core.Logic.{⊎-elim}
+use lib.ListN.{getD, length-map}
+use Rattle.locks.specs.Rows.{noRow, rowsOf}
+use Rattle.locks.proofs.Drawn.{Used, in-use, asked-length, old-at, new-at, Filled, fill-start, conflict-as, fill-next, fill-row, filled}
+
+abbrev Inv-loop2 : tie.InvT-loop2
+Inv-loop2 r t n ways₀ w x a₀ ways a = (a ≤ w) × Filled (rowsOf t ++ r ∷ []) w a ways
+
+abbrev μ-loop2 : tie.MeasureT-loop2
+μ-loop2 r t n ways₀ w x a₀ ways a = w - a
+
+abbrev Inv-loop : tie.InvT-loop
+Inv-loop r t n ways₀ w₀ ways w = Used t n × ((w ≤ n + 1) × Filled (rowsOf t ++ r ∷ []) w 0 ways)
+
+abbrev μ-loop : tie.MeasureT-loop
+μ-loop r t n ways₀ w₀ ways w = n + 1 - w
+
+-- src/search.rt:40:9
+least-requires : tie.Need-least-requires Inv-loop2 μ-loop2 Inv-loop μ-loop
+least-requires c κs = search needs
+
+-- src/search.rt:43:5
+loop-holds : tie.Need-loop-holds Inv-loop2 μ-loop2 Inv-loop μ-loop
+loop-holds c = (in-use _ (simp length-map at (c .before .good .0 .1 .1 .0 .1 .0 .1)) (c .least .ensures), (search needs, fill-start _))
+
+-- src/search.rt:46:21
+mul-y : tie.Need-mul-y Inv-loop2 μ-loop2 Inv-loop μ-loop
+mul-y c = search needs
+
+-- src/search.rt:46:21
+element-copy-out-y : tie.Need-element-copy-out-y Inv-loop2 μ-loop2 Inv-loop μ-loop
+element-copy-out-y c = search needs
+
+-- src/search.rt:50:9
+loop2-holds : tie.Need-loop2-holds Inv-loop2 μ-loop2 Inv-loop μ-loop
+loop2-holds c = (search needs, c .before .before .loop .inv .1 .1)
+
+-- src/search.rt:51:21
+mul-y-2 : tie.Need-mul-y-2 Inv-loop2 μ-loop2 Inv-loop μ-loop
+mul-y-2 c = search needs
+
+-- src/search.rt:51:21
+element-copy-out-y-2 : tie.Need-element-copy-out-y-2 Inv-loop2 μ-loop2 Inv-loop μ-loop
+element-copy-out-y-2 c = search needs
+
+-- src/search.rt:52:32
+conflicts-requires : tie.Need-conflicts-requires Inv-loop2 μ-loop2 Inv-loop μ-loop
+conflicts-requires c κs = search needs
+
+-- src/search.rt:52:18
+mul-ways : tie.Need-mul-ways Inv-loop2 μ-loop2 Inv-loop μ-loop
+mul-ways c = search needs
+
+-- src/search.rt:52:18
+add-ways : tie.Need-add-ways Inv-loop2 μ-loop2 Inv-loop μ-loop
+add-ways c = search needs
+
+-- src/search.rt:52:13
+array-write-ways : tie.Need-array-write-ways Inv-loop2 μ-loop2 Inv-loop μ-loop
+array-write-ways c = search needs
+
+-- src/search.rt:53:13
+add-a : tie.Need-add-a Inv-loop2 μ-loop2 Inv-loop μ-loop
+add-a c = search needs
+
+-- src/search.rt:50:9
+loop2-less : tie.Need-loop2-less Inv-loop2 μ-loop2 Inv-loop μ-loop
+loop2-less c = search needs
+
+-- src/search.rt:50:9
+loop2-again : tie.Need-loop2-again Inv-loop2 μ-loop2 Inv-loop μ-loop
+loop2-again c =
+    let s = c .before .before .before .before .before in
+    let u = s .before .loop .inv .0 in
+    let x : c .before .before .before .before .if1 .x ≡ getD (rowsOf (s .before .before .before .args .t1) ++ s .before .before .before .args .r ∷ []) (s .before .loop .w) noRow = ⊎-elim (λ z. z .2 ∙ old-at _ _ u _ _ (z .0 .taken)) (λ z. let e : s .before .loop .w ≡ s .before .before .least .result = omega (arith, z .0 .left, s .loop-test .taken) in z .1 ∙ rw e (sym (new-at _ _ u))) (c .before .before .before .before .if1 .came) in
+    let l : c .before .before .before .loop2 .a < s .before .before .least .result = omega (arith, s .loop-test .taken, c .before .before .loop2-test .taken) in
+    (search needs, fill-next (c .before .before .before .loop2 .inv .1) (search needs) (c .before .before .loop2-test .taken) (conflict-as _ _ _ _ (c .conflicts .ensures) x (old-at _ _ u _ _ l)))
+
+-- src/search.rt:55:9
+add-w : tie.Need-add-w Inv-loop2 μ-loop2 Inv-loop μ-loop
+add-w c = search needs
+
+-- src/search.rt:43:5
+loop-less : tie.Need-loop-less Inv-loop2 μ-loop2 Inv-loop μ-loop
+loop-less c = search needs
+
+-- src/search.rt:43:5
+loop-again : tie.Need-loop-again Inv-loop2 μ-loop2 Inv-loop μ-loop
+loop-again c =
+    let s = c .before .before .before .before in
+    (s .loop .inv .0, (search needs, fill-row (c .before .loop2 .inv .1) (search needs) (c .loop2-test .left) (c .before .loop2 .inv .0)))
+
+-- src/search.rt:37:1
+returns : tie.Need-returns Inv-loop2 μ-loop2 Inv-loop μ-loop
+returns c =
+    let inv = c .before .loop .inv in
+    let e : c .before .loop .w ≡ c .before .before .least .result + 1 = omega arith in
+    filled (inv .1 .1) (asked-length _ _ (inv .0) ∙ sym e)
+
+pub ways-of-spec : {M : Type 1} → statement M
+ways-of-spec =
+    tie.close
+    (tie.spec
+    Inv-loop2
+    μ-loop2
+    Inv-loop
+    μ-loop
+    least-requires
+    loop-holds
+    mul-y
+    element-copy-out-y
+    loop2-holds
+    mul-y-2
+    element-copy-out-y-2
+    conflicts-requires
+    mul-ways
+    add-ways
+    array-write-ways
+    add-a
+    loop2-less
+    loop2-again
+    add-w
+    loop-less
+    loop-again
+    returns)
