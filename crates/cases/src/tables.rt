@@ -47,7 +47,7 @@ fn behind(x: &[u8], y: &[u8]) {
     answer(t, row(3, false, x));
 }
 
-pub fn sequences() {
+pub(crate) fn sequences() {
     say(b"Sequences: 3 asks behind 2, both unshared");
     behind(b"AB", b"ABC");
     behind(b"ABC", b"AB");
@@ -67,7 +67,7 @@ fn asks(t: Table, r: Row, who: &[u8]) {
     answer(t, r);
 }
 
-pub fn kinds() {
+pub(crate) fn kinds() {
     say(b"Kinds: requests for P");
     let s = append(no_rows(), row(2, true, b"P"));
     asks(s, row(3, true, b"P"), b"shared behind shared");
@@ -90,7 +90,7 @@ pub fn kinds() {
     );
 }
 
-pub fn rows_go() {
+pub(crate) fn rows_go() {
     say(b"2 and 3 ask shared, 4 unshared, 5 shared; 4 holds Q");
     let t = append(append(no_rows(), row(2, true, b"P")), row(3, true, b"P"));
     let t = append(append(t, row(4, false, b"Q")), row(4, false, b"P"));
@@ -160,7 +160,7 @@ fn ring(m: u8, n: u8) {
     answer(line(m), one(n, 1));
 }
 
-pub fn rings() {
+pub(crate) fn rings() {
     say(b"Rings, and chains that do not return: each in the line waits for the next");
     let mut m: u8 = 1;
     while m < 16 {
@@ -170,7 +170,7 @@ pub fn rings() {
     }
 }
 
-pub fn ways_back() {
+pub(crate) fn ways_back() {
     say(b"Ways back: 2 holds x, 3 holds y, 2 waits for y");
     let t = append(
         append(append(no_rows(), one(2, b'x')), one(3, b'y')),
@@ -201,7 +201,7 @@ fn sharers() -> Table {
     )
 }
 
-pub fn sharing() {
+pub(crate) fn sharing() {
     say(b"2 and 3 share P, 4 holds y");
     let t = sharers();
     let p = row(4, false, b"P");
@@ -219,7 +219,7 @@ fn count(t: Table) {
     say(b" rows");
 }
 
-pub fn full() {
+pub(crate) fn full() {
     say(b"1 to 16 in a line, and 1 holds another sequence");
     let t = append(line(16), one(1, 99));
     count(t);

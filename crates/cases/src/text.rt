@@ -7,13 +7,13 @@ use locks::rows::no_rows;
 use locks::rows::waits;
 use locks::search::leads_back;
 
-pub fn say(line: &[u8]) {
+pub(crate) fn say(line: &[u8]) {
     io::write_all(1, line);
     io::write_all(1, b"\n");
 }
 
 // A zero byte is written \0.
-pub fn quote(s: &[u8]) {
+pub(crate) fn quote(s: &[u8]) {
     io::write_all(1, b"\"");
     let mut i: usize = 0;
     while i < s.len() {
@@ -29,7 +29,7 @@ pub fn quote(s: &[u8]) {
 }
 
 // What comes of the request r, as the calls' checks go.
-pub fn answer(t: Table, r: Row) {
+pub(crate) fn answer(t: Table, r: Row) {
     if has_twin(t, r) {
         say(b": has its row already");
         return;
@@ -72,7 +72,7 @@ fn show_row(t: Table, r: Row) {
 }
 
 // The rows, each shown behind those ahead of it.
-pub fn show(t: Table) {
+pub(crate) fn show(t: Table) {
     let mut ahead = no_rows();
     let mut i: usize = 0;
     while i < 32 {

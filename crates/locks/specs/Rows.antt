@@ -7,6 +7,8 @@ use lib.ListN.{drop, length, replicate, take}
 use Rattle.locks.specs.Lists.{any, all, keep, sift, padded, member, agree, between, isZero}
 use Rattle.locks.specs.declared.rows.Row.{Row}
 use Rattle.locks.specs.declared.rows.Table.{Table}
+use Rattle.locks.specs.declared.rows.Part.{Part}
+use Rattle.locks.specs.declared.rows.Part.the-variants.{Twin, All, Waiting}
 
 -- ---- a table is the list of its rows; "Unused places are all zero."
 
@@ -66,6 +68,12 @@ withoutOwner n rows = keep (λ q. not (owns n q)) rows
 -- "a lock sleeper loses its row": the one that waits
 unfoldable pub withoutWaiting : ℕ → List Row → List Row
 withoutWaiting n rows = sift (λ earlier q. not (waitsOf n earlier q)) [] rows
+
+-- the three as parts of the rows of r's owner, which the code takes out in one loop: q, behind those earlier, is of that part
+unfoldable pub goes : Part → Row → List Row → Row → Bool
+goes Twin r earlier q = twin r q
+goes All r earlier q = owns (r .owner) q
+goes Waiting r earlier q = waitsOf (r .owner) earlier q
 
 -- ---- rows of a sound state
 

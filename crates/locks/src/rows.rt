@@ -1,10 +1,11 @@
 // Lock rows: which conflict, which wait, and what stays when rows come and go.
 ghost use mathlib.Core.Path.{_≡_};
+ghost use mathlib.Core.Bool.{not};
 ghost use mathlib.Core.List.{[], _∷_, _++_};
 ghost use Prim.Native.Nat.{min};
 ghost use lib.ListN.{length, take};
-ghost use Rattle.locks.specs.Lists.{agree};
-ghost use Rattle.locks.specs.Rows.{noRow, rowsOf, laidRows, sameSequence, conflict, waits, twin, hasTwin, waitingOf, withoutTwin, withoutOwner, withoutWaiting};
+ghost use Rattle.locks.specs.Lists.{sift, agree};
+ghost use Rattle.locks.specs.Rows.{noRow, rowsOf, laidRows, sameSequence, conflict, waits, twin, hasTwin, waitingOf, withoutTwin, withoutOwner, withoutWaiting, goes};
 
 // A lock or a request for one: its sequence is the first `len` of the bytes, and zeros stand after them.
 pub struct Row {
@@ -177,8 +178,16 @@ pub fn append(t: Table, r: Row) -> Table
     }
 }
 
-pub fn without_twin(t: Table, r: Row) -> Table
-    ensures { λ u. ⌜ u ≡ laidRows (withoutTwin r (rowsOf t)) ⌝ }
+// Which rows of an owner go: the one for a sequence, all, or those that wait.
+enum Part {
+    Twin,
+    All,
+    Waiting,
+}
+
+// What stays when that part of the rows of r's owner goes, in a second table.
+fn rest(t: Table, r: Row, part: Part) -> Table
+    ensures { λ u. ⌜ u ≡ laidRows (sift (λ earlier q. not (goes part r earlier q)) [] (rowsOf t)) ⌝ }
 {
     let n = least(t.used, 32);
     let z = no_row();
@@ -187,7 +196,15 @@ pub fn without_twin(t: Table, r: Row) -> Table
     let mut i: usize = 0;
     while i < n {
         let q = t.rows[i];
-        if !twins(r, q) {
+        let mut gone = false;
+        if q.owner == r.owner {
+            gone = match part {
+                Part::Twin => same_sequence(r, q),
+                Part::All => true,
+                Part::Waiting => waits_behind(t, i, q),
+            };
+        }
+        if !gone {
             rows[k] = q;
             k += 1;
         }
@@ -197,52 +214,26 @@ pub fn without_twin(t: Table, r: Row) -> Table
         rows: rows,
         used: k,
     }
+}
+
+pub fn without_twin(t: Table, r: Row) -> Table
+    ensures { λ u. ⌜ u ≡ laidRows (withoutTwin r (rowsOf t)) ⌝ }
+{
+    rest(t, r, Part::Twin)
 }
 
 pub fn without_owner(t: Table, owner: u16) -> Table
     ensures { λ u. ⌜ u ≡ laidRows (withoutOwner owner (rowsOf t)) ⌝ }
 {
-    let n = least(t.used, 32);
-    let z = no_row();
-    let mut rows = [z; 32];
-    let mut k: usize = 0;
-    let mut i: usize = 0;
-    while i < n {
-        let q = t.rows[i];
-        if q.owner != owner {
-            rows[k] = q;
-            k += 1;
-        }
-        i += 1;
-    }
-    Table {
-        rows: rows,
-        used: k,
-    }
+    let mut r = no_row();
+    r.owner = owner;
+    rest(t, r, Part::All)
 }
 
 pub fn without_waiting(t: Table, owner: u16) -> Table
     ensures { λ u. ⌜ u ≡ laidRows (withoutWaiting owner (rowsOf t)) ⌝ }
 {
-    let n = least(t.used, 32);
-    let z = no_row();
-    let mut rows = [z; 32];
-    let mut k: usize = 0;
-    let mut i: usize = 0;
-    while i < n {
-        let q = t.rows[i];
-        let mut goes = false;
-        if q.owner == owner {
-            goes = waits_behind(t, i, q);
-        }
-        if !goes {
-            rows[k] = q;
-            k += 1;
-        }
-        i += 1;
-    }
-    Table {
-        rows: rows,
-        used: k,
-    }
+    let mut r = no_row();
+    r.owner = owner;
+    rest(t, r, Part::Waiting)
 }

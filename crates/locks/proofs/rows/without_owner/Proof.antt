@@ -1,101 +1,26 @@
--- `locks::rows::without_owner` meets its contract: what stays of the first i rows is packed. Assumes nothing.
+-- `locks::rows::without_owner` meets its contract. Assumes nothing.
+use borrow.Author.Needs.{needs}
 use Rattle.locks.proofs.rows.without_owner.Statement.{statement}
 use Rattle.locks.proofs.rows.without_owner.Tie as tie
-use borrow.Author.Needs.{needs}
-use borrow.Author.Tests.{eq-eqb, ne-eqb}
-use Prim.Native.Nat.{ℕ, _-_}
-use mathlib.Core.Path.{ap}
-use mathlib.Core.Bool.{Bool, not}
-use mathlib.Core.List.{List}
-use mathlib.Core.Logic.{⊎-elim}
-use lib.ListN.{length-map}
-use Rattle.locks.specs.Rows.{noRow, owns, withoutOwner}
+use mathlib.Core.Path.{_∙_, ap}
+use mathlib.Core.Bool.{not}
+use mathlib.Core.List.{[]}
+use Rattle.locks.specs.Rows.{rowsOf, laidRows, owns, withoutOwner, goes}
 use Rattle.locks.specs.declared.rows.Row.{Row}
-use Rattle.locks.proofs.Loops.{Walk, walk-start, walk-next, Packed, pack, skip}
-use Rattle.locks.proofs.Tables.{unpacked, packed-keep}
+use Rattle.locks.proofs.Loops.{keep-sift}
 
-abbrev stays : ℕ → List Row → Row → Bool
-stays owner _ q = not (owns owner q)
-
-abbrev Inv-loop : tie.InvT-loop
-Inv-loop owner t n rows₀ k₀ i₀ rows k i = Walk (t .rows) 32 (t .used) n i × Packed noRow (stays owner) (t .rows) 32 i rows k
-
-abbrev μ-loop : tie.MeasureT-loop
-μ-loop owner t n rows₀ k₀ i₀ rows k i = n - i
-
--- src/rows.rt:203:9
-least-requires : tie.Need-least-requires Inv-loop μ-loop
-least-requires c κs = search needs
-
--- src/rows.rt:204:9
-no-row-requires : tie.Need-no-row-requires Inv-loop μ-loop
+-- src/rows.rt:228:9
+no-row-requires : tie.Need-no-row-requires
 no-row-requires c κs = search needs
 
--- src/rows.rt:208:5
-loop-holds : tie.Need-loop-holds Inv-loop μ-loop
-loop-holds c = (walk-start _ _ _ _ (simp length-map at (c .before .before .good .0 .1 .1 .0 .1 .0 .1)) (c .before .least .ensures), unpacked _ _ (c .no-row .ensures))
+-- src/rows.rt:230:5
+rest-requires : tie.Need-rest-requires
+rest-requires c κs = search needs
 
--- src/rows.rt:209:17
-mul-q : tie.Need-mul-q Inv-loop μ-loop
-mul-q c = search needs
-
--- src/rows.rt:209:17
-element-copy-out-q : tie.Need-element-copy-out-q Inv-loop μ-loop
-element-copy-out-q c = search needs
-
--- src/rows.rt:211:13
-mul-rows : tie.Need-mul-rows Inv-loop μ-loop
-mul-rows c = search needs
-
--- src/rows.rt:211:13
-array-set-from-rows : tie.Need-array-set-from-rows Inv-loop μ-loop
-array-set-from-rows c = search needs
-
--- src/rows.rt:212:13
-add-k : tie.Need-add-k Inv-loop μ-loop
-add-k c = search needs
-
--- src/rows.rt:214:9
-add-i : tie.Need-add-i Inv-loop μ-loop
-add-i c = search needs
-
--- src/rows.rt:208:5
-loop-less : tie.Need-loop-less Inv-loop μ-loop
-loop-less c = search needs
-
--- src/rows.rt:208:5
-loop-again : tie.Need-loop-again Inv-loop μ-loop
-loop-again c =
-    let s = c .before .before .before in
-    let inv = s .before .loop .inv in
-    let f = stays (s .before .before .before .before .args .owner) in
-    let l = s .loop-test .taken in (
-      walk-next (inv .0) l,
-      ⊎-elim (λ w. rw (w .1, w .2) (pack (inv .0) f _ l (inv .1) (ap not (ne-eqb _ _ (w .0 .taken)))))
-          (λ w. rw (w .1, w .2) (skip (inv .0) f _ l (inv .1) (ap not (eq-eqb _ _ (w .0 .left)))))
-          (c .if1 .came),
-    )
-
--- src/rows.rt:200:1
-returns : tie.Need-returns Inv-loop μ-loop
-unfolding withoutOwner
-returns c = packed-keep _ (λ (q : Row). not (owns (c .before .before .before .before .args .owner) q)) (c .before .loop .inv .0) (c .loop-test .left) (c .before .loop .inv .1)
+-- src/rows.rt:225:1
+returns : tie.Need-returns
+unfolding withoutOwner goes
+returns c = let a = c .before .before .args in c .rest .ensures ∙ ap laidRows (keep-sift (λ (q : Row). not (owns (a .owner) q)) [] (rowsOf (a .t)))
 
 pub without-owner-spec : {M : Type 1} → statement M
-without-owner-spec =
-    tie.close
-    (tie.spec
-    Inv-loop
-    μ-loop
-    least-requires
-    no-row-requires
-    loop-holds
-    mul-q
-    element-copy-out-q
-    mul-rows
-    array-set-from-rows
-    add-k
-    add-i
-    loop-less
-    loop-again
-    returns)
+without-owner-spec = tie.close (tie.spec no-row-requires rest-requires returns)
