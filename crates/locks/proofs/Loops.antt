@@ -5,10 +5,10 @@ use native.Mathlib.Numerals.{add-one}
 use mathlib.Core.Path.{_≡_, refl, sym, _∙_}
 use mathlib.Core.Bool.{Bool, true, false, and-false, and-true}
 use mathlib.Core.List.{List, [], _∷_, _++_, append-assoc, append-nil}
-use lib.Dec.{leb}
+use lib.Dec.{eqb, leb}
 use lib.ListN.{length, getD, take, set, replicate, length-append, List·getD-eq-default}
 use lib.Seq.{take-all, take-suc, getD-take, length-take-le, set-at}
-use borrow.Author.Tests.{eq-eqb, ne-eqb, leb-true, leb-false}
+use borrow.Author.Tests.{eq-eqb, ne-eqb, eqb-true, eqb-false, leb-true, leb-false}
 use Rattle.locks.specs.Lists.{any, keep, sift, consIf, padded, agree}
 use Rattle.locks.proofs.Tests.{cases}
 use Rattle.locks.proofs.Lists.{some-any, any-end}
@@ -148,3 +148,8 @@ agree-min k (suc n) x y hx hy =
     let b : length y ≤ n = omega arith in
     rw (m, agree-min k n x y hx hy, List·getD-eq-default x 0 a, List·getD-eq-default y 0 b) (and-true (agree (min n k) x y)))
     (λ e. let l : n < k = leb-false k n e in let m : min (suc n) k ≡ suc n = omega arith in rw m)
+
+-- ---- a loop that counts down
+
+pub one-down : (P : ℕ → Type 0) {a n : ℕ} → ((b : ℕ) → a ≤ b → b < n → P b) → P (a - 1) → (b : ℕ) → a - 1 ≤ b → b < n → P b
+one-down P {a} h p b l m = cases (eqb b (a - 1)) (λ e. rw (eqb-true b (a - 1) e) p) (λ e. let d : b ≡ a - 1 → ⊥ = eqb-false b (a - 1) e in h b (omega arith) m)

@@ -82,15 +82,15 @@ fn closes<'a>(owners: &'a [u16; 33], ways: &'a [bool; 1089], p: u16, c: u16) -> 
     let mut w: usize = 0;
     'pairs: while w < 33 {
         if owners[w] == p {
-            let mut a: usize = 0;
-            while a < w {
+            let mut a = w;
+            while 0 < a {
+                a -= 1;
                 if owners[a] == c {
                     if ways[w * 33 + a] {
                         found = true;
                         break 'pairs;
                     }
                 }
-                a += 1;
             }
         }
         w += 1;
