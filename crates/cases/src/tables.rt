@@ -73,9 +73,11 @@ pub(crate) fn kinds() {
     asks(s, row(3, true, b"P"), b"shared behind shared");
     asks(s, row(3, false, b"P"), b"unshared behind shared");
     asks(s, row(2, false, b"P"), b"unshared behind one's own shared");
-    let u = append(no_rows(), row(2, false, b"P"));
-    asks(u, row(3, true, b"P"), b"shared behind unshared");
-    let w = append(s, row(3, false, b"P"));
+    behind_waiter(append(s, row(3, false, b"P")));
+}
+
+// 2 holds P shared, 3 waits for it unshared.
+fn behind_waiter(w: Table) {
     asks(
         w,
         row(4, true, b"P"),
@@ -88,6 +90,12 @@ pub(crate) fn kinds() {
         row(4, true, b"P"),
         b"shared behind shared",
     );
+    say(b"2 ends");
+    asks(
+        without_owner(w, 2),
+        row(4, true, b"P"),
+        b"shared behind unshared",
+    );
 }
 
 pub(crate) fn rows_go() {
@@ -97,22 +105,30 @@ pub(crate) fn rows_go() {
     let t = append(t, row(5, true, b"P"));
     show(t);
     say(b"2 unlocks");
-    let t = without_twin(t, row(2, false, b"P"));
+    three_left(without_twin(t, row(2, false, b"P")));
+}
+
+// 3 holds P shared, 4 holds Q and waits for P, 5 waits for P.
+fn three_left(t: Table) {
     show(t);
     say(b"3 unlocks PQ, which it does not have");
     show(without_twin(t, row(3, true, b"PQ")));
     say(b"a trap takes 4's waiting row");
     show(without_waiting(t, 4));
     say(b"3 ends");
-    let t = without_owner(t, 3);
+    two_left(without_owner(t, 3));
+}
+
+// 4 holds Q and P, 5 waits for P.
+fn two_left(t: Table) {
     show(t);
-    say(b"4 ends");
-    show(without_owner(t, 4));
     say(b"waiting rows of 4, of 5");
     io::print_decimal(1, waiting_of(t, 4) as u64);
     io::write_all(1, b" ");
     io::print_decimal(1, waiting_of(t, 5) as u64);
     say(b"");
+    say(b"4 ends");
+    show(without_owner(t, 4));
 }
 
 fn one(owner: u8, x: u8) -> Row {
@@ -178,19 +194,26 @@ pub(crate) fn ways_back() {
     );
     asks(t, one(3, b'x'), b"3 asks x");
     asks(t, one(4, b'x'), b"4 asks x");
-    let r = append(t, one(3, b'x'));
+    ring_there(append(t, one(3, b'x')));
+    neighbours();
+}
+
+fn ring_there(t: Table) {
     say(b"3 waits for x, a ring that no paper reaches; 5 holds z");
-    let r = append(r, one(5, b'z'));
+    let r = append(t, one(5, b'z'));
     asks(r, one(4, b'x'), b"4 asks x");
     asks(r, one(2, b'z'), b"2 asks z");
+}
+
+fn neighbours() {
     say(b"4 holds x, 2 waits for x, 3 holds y");
-    let n = append(
+    let t = append(
         append(append(no_rows(), one(4, b'x')), one(2, b'x')),
         one(3, b'y'),
     );
-    asks(n, one(3, b'x'), b"3 asks x");
+    asks(t, one(3, b'x'), b"3 asks x");
     say(b"3 waits for x too");
-    asks(append(n, one(3, b'x')), one(4, b'y'), b"4 asks y");
+    asks(append(t, one(3, b'x')), one(4, b'y'), b"4 asks y");
 }
 
 // 2 and 3 share P, 4 holds y.
@@ -208,8 +231,12 @@ pub(crate) fn sharing() {
     asks(t, p, b"4 asks P");
     asks(append(t, one(2, b'y')), p, b"4 asks P, 2 waits for y");
     asks(append(t, one(3, b'y')), p, b"4 asks P, 3 waits for y");
+    behind_sharers(append(t, p));
+}
+
+fn behind_sharers(t: Table) {
     say(b"4 waits for P, 5 holds z and waits for P shared");
-    let w = append(append(append(t, p), one(5, b'z')), row(5, true, b"P"));
+    let w = append(append(t, one(5, b'z')), row(5, true, b"P"));
     asks(w, one(2, b'z'), b"2 asks z");
     asks(w, one(6, b'z'), b"6 asks z");
 }
