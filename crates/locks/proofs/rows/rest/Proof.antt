@@ -108,13 +108,19 @@ loop-less c = search needs
 loop-again : tie.Need-loop-again Inv-loop μ-loop
 loop-again c =
     let s = c .before .before .before .before .before in
-    let inv = s .before .loop .inv in
     let a = s .before .before .before .before .args in
+    let i = s .before .loop .i in
+    let inv = s .before .loop .inv in
+    let f = stays (a .part) (a .r) in
     let l = s .loop-test .taken in
-    let gone : c .before .if1 .gone ≡ goes (a .part) (a .r) (take (s .before .loop .i) (a .t1 .rows)) (getD (a .t1 .rows) (s .before .loop .i) _) = ⊎-elim (λ w. by-twin _ _ _ _ (w .2 .given .1) (w .0 .taken) (w .4 ∙ w .3 .ensures)) (⊎-elim (λ w. by-all _ _ _ _ (w .2 .given .1) (w .0 .taken) (w .3)) (⊎-elim (λ w. by-waiting _ _ _ _ (w .2 .given .1) (w .0 .taken) (w .4 ∙ w .3 .ensures)) (λ w. by-none _ _ _ _ (w .0 .left) (w .1)))) (c .before .if1 .came) in (
+    let gone : c .before .if1 .gone ≡ goes (a .part) (a .r) (take i (a .t1 .rows)) (getD (a .t1 .rows) i _) =
+    ⊎-elim (λ w. by-twin _ _ _ _ (w .2 .given .1) (w .0 .taken) (w .4 ∙ w .3 .ensures))
+    (⊎-elim (λ w. by-all _ _ _ _ (w .2 .given .1) (w .0 .taken) (w .3))
+    (⊎-elim (λ w. by-waiting _ _ _ _ (w .2 .given .1) (w .0 .taken) (w .4 ∙ w .3 .ensures)) (λ w. by-none _ _ _ _ (w .0 .left) (w .1))))
+    (c .before .if1 .came) in (
       walk-next (inv .0) l,
-      ⊎-elim (λ w. rw (w .1, w .2) (pack (inv .0) (stays (a .part) (a .r)) _ l (inv .1) (sym (ap not gone) ∙ w .0 .taken)))
-          (λ w. rw (w .1, w .2) (skip (inv .0) (stays (a .part) (a .r)) _ l (inv .1) (sym (ap not gone) ∙ w .0 .left)))
+      ⊎-elim (λ w. rw (w .1, w .2) (pack (inv .0) f _ l (inv .1) (sym (ap not gone) ∙ w .0 .taken)))
+          (λ w. rw (w .1, w .2) (skip (inv .0) f _ l (inv .1) (sym (ap not gone) ∙ w .0 .left)))
           (c .if2 .came),
     )
 

@@ -53,10 +53,13 @@ loop-less c = search needs
 loop-again : tie.Need-loop-again Inv-loop μ-loop
 loop-again c =
     let s = c .before .before .before .before in
+    let a = s .before .before .before .args in
+    let i = s .before .loop .i in
     let inv = s .before .loop .inv in
-    let f = waitsOf (s .before .before .before .args .owner) in
+    let f = waitsOf (a .owner) in
     let l = s .loop-test .taken in
-    let waiting : c .before .if1 .waiting ≡ waitsOf (s .before .before .before .args .owner) (take (s .before .loop .i) (s .before .before .before .args .t1 .rows)) (getD (s .before .before .before .args .t1 .rows) (s .before .loop .i) _) = ⊎-elim (λ w. own-waits _ _ _ (w .0 .taken) (w .2 ∙ w .1 .ensures)) (λ w. not-own _ _ _ (w .0 .left) (w .1)) (c .before .if1 .came) in (
+    let waiting : c .before .if1 .waiting ≡ f (take i (a .t1 .rows)) (getD (a .t1 .rows) i _) =
+    ⊎-elim (λ w. own-waits _ _ _ (w .0 .taken) (w .2 ∙ w .1 .ensures)) (λ w. not-own _ _ _ (w .0 .left) (w .1)) (c .before .if1 .came) in (
       walk-next (inv .0) l,
       ⊎-elim (λ w. (omega arith, rw (w .1, sifted-more (inv .0) f _ l (sym waiting ∙ w .0 .taken), inv .1 .1, length-append)))
           (λ w. (omega arith, rw (w .1, sifted-same (inv .0) f _ l (sym waiting ∙ w .0 .left)) (inv .1 .1)))

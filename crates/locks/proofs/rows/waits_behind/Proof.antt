@@ -41,7 +41,8 @@ returns : tie.Need-returns Inv-loop μ-loop
 unfolding waits
 returns c =
     let s = c .before .before .before in
-    sym (found (s .before .loop .inv .0) (conflict (c .before .before .before .before .before .before .args .r)) _ (s .loop-test .taken) (sym (c .before .conflicts .ensures) ∙ c .if1 .taken))
+    let f = conflict (s .before .before .before .args .r) in
+    sym (found (s .before .loop .inv .0) f _ (s .loop-test .taken) (sym (c .before .conflicts .ensures) ∙ c .if1 .taken))
 
 -- src/rows.rt:87:9
 add-i : tie.Need-add-i Inv-loop μ-loop
@@ -56,7 +57,9 @@ loop-again : tie.Need-loop-again Inv-loop μ-loop
 loop-again c =
     let s = c .before .before .before in
     let inv = s .before .loop .inv in
-    (walk-next (inv .0) (s .loop-test .taken), none-next (inv .0) (conflict (c .before .before .before .before .before .before .args .r)) _ (s .loop-test .taken) (inv .1) (sym (c .before .conflicts .ensures) ∙ c .if1 .left))
+    let f = conflict (s .before .before .before .args .r) in
+    let l = s .loop-test .taken in
+    (walk-next (inv .0) l, none-next (inv .0) f _ l (inv .1) (sym (c .before .conflicts .ensures) ∙ c .if1 .left))
 
 -- src/rows.rt:77:1
 returns-2 : tie.Need-returns-2 Inv-loop μ-loop

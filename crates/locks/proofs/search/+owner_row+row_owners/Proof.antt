@@ -263,7 +263,11 @@ owner-row-loop-again : (t : ℕ) → owner-row-lts.Need-loop-again (
   row-owners-below t,
   row-owners.Post,
 ) (owner-row-at t) owner-row.Post owner-row-Inv-loop owner-row-μ-loop
-owner-row-loop-again t c = (search needs, ⊎-elim (λ z. tour-on (c .before .before .before .loop .inv .1) (z .1 .ensures) (z .2 .left) (λ q h. h .1) (z .4)) (λ z. tour-past (c .before .before .before .loop .inv .1) (λ q h. z .0 .left (h .0)) (z .1)) (c .if3 .came))
+owner-row-loop-again t c =
+    let so-far = c .before .before .before .loop .inv .1 in (
+      search needs,
+      ⊎-elim (λ z. tour-on so-far (z .1 .ensures) (z .2 .left) (λ q h. h .1) (z .4)) (λ z. tour-past so-far (λ q h. z .0 .left (h .0)) (z .1)) (c .if3 .came),
+    )
 
 -- src/search.rt:123:1
 owner-row-returns-4 : (t : ℕ) → owner-row-lts.Need-returns-4 (
@@ -280,11 +284,14 @@ owner-row-returns-4 t c =
     let s = k .before .before in
     let n : length (s .args .opened) ≡ 33 = search needs in
     let f = place-fits (s .args .owners .now) (s .args .a) (k .place .result) (s .args .opened) (s .pre .1) (k .place .ensures) n in
-    let g = inv .1 .grown in
+    let o = s .args .owners .now in
+    let y = s .args .ways .now in
     record {
       back = λ e. absurd (false≢true e);
-      grown = λ _. opening (s .args .owners .now) (s .args .ways .now) (s .args .c) _ (k .place .result) (s .args .a) (s .args .opened) (k .place .ensures) refl f g (s .pre .1) (λ l. true≢false (sym (c .before .before .before .closes .ensures .1 l) ∙ c .before .before .if2 .left)) (λ v l e q h. inv .1 .opens v (omega (arith, c .loop-test .left)) q (e, h));
-      had = λ _ q e. rw (← e) (opened-in (s .args .owners .now) (s .args .ways .now) (s .args .c) _ (k .place .result) (s .args .a) (s .args .opened) (k .place .ensures) refl f g);
+      grown = λ _. opening o y (s .args .c) _ (k .place .result) (s .args .a) (s .args .opened) (k .place .ensures) refl f (inv .1 .grown) (s .pre .1)
+          (λ l. true≢false (sym (c .before .before .before .closes .ensures .1 l) ∙ c .before .before .if2 .left))
+          (λ v l e q h. inv .1 .opens v (omega (arith, c .loop-test .left)) q (e, h));
+      had = λ _ q e. rw (← e) (opened-in o y (s .args .c) _ (k .place .result) (s .args .a) (s .args .opened) (k .place .ensures) refl f (inv .1 .grown));
     }
 
 abbrev row-owners-Inv-loop : row-owners-lts.InvT-loop
@@ -351,8 +358,11 @@ row-owners-returns :
     row-owners-μ-loop
 row-owners-returns t c =
     let s = c .before .before .before .before .before in
+    let o = s .before .args .owners .now in
+    let first : RowLeads o (s .before .args .ways .now) (s .before .args .w) (getD o (s .loop .a) 0) =
+    record { other = s .loop .a; ahead = c .before .before .before .before .loop-test .taken; blocks = c .before .before .if1 .taken; to = refl } in
     record {
-      back = λ e. more (record { row = s .before .args .w; stands = s .before .pre .1; from = refl; on = record { other = s .loop .a; ahead = c .before .before .before .before .loop-test .taken; blocks = c .before .before .if1 .taken; to = refl } }) (c .before .owner-row .ensures .back e);
+      back = λ e. more (record { row = s .before .args .w; stands = s .before .pre .1; from = refl; on = first }) (c .before .owner-row .ensures .back e);
       grown = λ e. absurd (true≢false (sym (c .if2 .taken) ∙ e));
       had = λ e. absurd (true≢false (sym (c .if2 .taken) ∙ e));
     }
@@ -384,7 +394,11 @@ row-owners-loop-again : (t : ℕ) → row-owners-lts.Need-loop-again (
   owner-row-below t,
   owner-row.Post,
 ) (row-owners-at t) row-owners.Post row-owners-Inv-loop row-owners-μ-loop
-row-owners-loop-again t c = (search needs, ⊎-elim (λ z. tour-on (c .before .before .before .loop .inv .1) (z .1 .ensures) (z .2 .left) (λ q h. h .1) (z .4)) (λ z. tour-past (c .before .before .before .loop .inv .1) (λ q h. false≢true (sym (z .0 .left) ∙ h .0)) (z .1)) (c .if1 .came))
+row-owners-loop-again t c =
+    let so-far = c .before .before .before .loop .inv .1 in (
+      search needs,
+      ⊎-elim (λ z. tour-on so-far (z .1 .ensures) (z .2 .left) (λ q h. h .1) (z .4)) (λ z. tour-past so-far (λ q h. false≢true (sym (z .0 .left) ∙ h .0)) (z .1)) (c .if1 .came),
+    )
 
 -- src/search.rt:99:1
 row-owners-returns-2 :

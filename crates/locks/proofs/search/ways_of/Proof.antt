@@ -80,9 +80,17 @@ loop2-again : tie.Need-loop2-again Inv-loop2 μ-loop2 Inv-loop μ-loop
 loop2-again c =
     let s = c .before .before .before .before .before in
     let u = s .before .loop .inv .0 in
-    let x : c .before .before .before .before .if1 .x ≡ getD (rowsOf (s .before .before .before .args .t1) ++ s .before .before .before .args .r ∷ []) (s .before .loop .w) noRow = ⊎-elim (λ z. z .2 ∙ old-at _ _ u _ _ (z .0 .taken)) (λ z. let e : s .before .loop .w ≡ s .before .before .least .result = omega (arith, z .0 .left, s .loop-test .taken) in z .1 ∙ rw e (sym (new-at _ _ u))) (c .before .before .before .before .if1 .came) in
-    let l : c .before .before .before .loop2 .a < s .before .before .least .result = omega (arith, s .loop-test .taken, c .before .before .loop2-test .taken) in
-    (search needs, fill-next (c .before .before .before .loop2 .inv .1) (search needs) (c .before .before .loop2-test .taken) (conflict-as _ _ _ _ (c .conflicts .ensures) x (old-at _ _ u _ _ l)))
+    let a = s .before .before .before .args in
+    let n = s .before .before .least .result in
+    let w = s .before .loop .w in
+    let x : c .before .before .before .before .if1 .x ≡ getD (rowsOf (a .t1) ++ a .r ∷ []) w noRow =
+    ⊎-elim (λ z. z .2 ∙ old-at _ _ u _ _ (z .0 .taken))
+    (λ z. let e : w ≡ n = omega (arith, z .0 .left, s .loop-test .taken) in z .1 ∙ rw e (sym (new-at _ _ u)))
+    (c .before .before .before .before .if1 .came) in
+    let v = c .before .before .before .loop2 in
+    let t = c .before .before .loop2-test .taken in
+    let l : v .a < n = omega (arith, s .loop-test .taken, t) in
+    (search needs, fill-next (v .inv .1) (search needs) t (conflict-as _ _ _ _ (c .conflicts .ensures) x (old-at _ _ u _ _ l)))
 
 -- src/search.rt:55:9
 add-w : tie.Need-add-w Inv-loop2 μ-loop2 Inv-loop μ-loop
