@@ -2,7 +2,7 @@
 .PHONY: demo test
 
 demo:
-	@echo "Proving the rules: this takes some seconds .."
+	@echo "Proving the rules and the code: this takes a minute or two the first time .."
 	@mkdir -p target && rt check > target/demo.log 2>&1 || { tail -n 20 target/demo.log; exit 1; }
 	@echo "Proved. These cases, played event by event on the rules, get the answers that they should:"
 	@sed -n '/^stories =/,/^-- "Proved/ s/^    -- /  /p' crates/model/specs/Cases.antt

@@ -1,4 +1,4 @@
--- What the search for a chain goes by, and what it finds. Assumes nothing.
+-- What the search for a chain goes by, and what its parts find; only promises of private functions cite this file. Assumes nothing.
 use Prim.Native.Nat.{ℕ, zero, suc, _+_, _*_, _<_, _≤_}
 use mathlib.Core.Path.{_≡_}
 use mathlib.Core.Bool.{Bool, true, false, cond}

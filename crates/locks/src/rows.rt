@@ -75,6 +75,7 @@ fn twins(r: Row, q: Row) -> bool
     same_sequence(r, q)
 }
 
+// The row r waits behind the first n places.
 fn waits_behind(t: Table, n: usize, r: Row) -> bool
     ensures { λ b. ⌜ b ≡ waits (take n (t .rows)) r ⌝ }
 {
@@ -155,7 +156,7 @@ pub fn no_rows() -> Table
     }
 }
 
-// The new row comes last. A full table has no place for it and stays as it is.
+// The new row comes last. A full table has no place for it and keeps its rows.
 pub fn append(t: Table, r: Row) -> Table
     ensures { λ u. ⌜ u ≡ laidRows (take 32 (rowsOf t ++ r ∷ [])) ⌝ }
 {
@@ -216,12 +217,14 @@ fn rest(t: Table, r: Row, part: Part) -> Table
     }
 }
 
+// Unlock: the row of r's owner for its sequence goes.
 pub fn without_twin(t: Table, r: Row) -> Table
     ensures { λ u. ⌜ u ≡ laidRows (withoutTwin r (rowsOf t)) ⌝ }
 {
     rest(t, r, Part::Twin)
 }
 
+// A process ends: all its rows go.
 pub fn without_owner(t: Table, owner: u16) -> Table
     ensures { λ u. ⌜ u ≡ laidRows (withoutOwner owner (rowsOf t)) ⌝ }
 {
@@ -230,6 +233,7 @@ pub fn without_owner(t: Table, owner: u16) -> Table
     rest(t, r, Part::All)
 }
 
+// A lock sleeper is trapped: its row that waits goes.
 pub fn without_waiting(t: Table, owner: u16) -> Table
     ensures { λ u. ⌜ u ≡ laidRows (withoutWaiting owner (rowsOf t)) ⌝ }
 {
