@@ -10,35 +10,27 @@ Inv-loop n t₀ p₀ t p = p ≤ n
 abbrev μ-loop : tie.MeasureT-loop
 μ-loop n t₀ p₀ t p = n - p
 
--- src/tables.rt:131:9
 no-rows-requires : tie.Need-no-rows-requires Inv-loop μ-loop
 no-rows-requires c κs = search needs
 
--- src/tables.rt:133:5
 loop-holds : tie.Need-loop-holds Inv-loop μ-loop
 loop-holds c = search needs
 
--- src/tables.rt:134:9
 add-p : tie.Need-add-p Inv-loop μ-loop
 add-p c = search needs
 
--- src/tables.rt:135:23
 one-requires : tie.Need-one-requires Inv-loop μ-loop
 one-requires c κs = search needs
 
--- src/tables.rt:135:9
 append-requires : tie.Need-append-requires Inv-loop μ-loop
 append-requires c κs = search needs
 
--- src/tables.rt:133:5
 loop-less : tie.Need-loop-less Inv-loop μ-loop
 loop-less c = search needs
 
--- src/tables.rt:133:5
 loop-again : tie.Need-loop-again Inv-loop μ-loop
 loop-again c = search needs
 
--- src/tables.rt:130:1
 returns : tie.Need-returns Inv-loop μ-loop
 returns c = search needs
 

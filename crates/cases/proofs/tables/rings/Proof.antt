@@ -10,35 +10,27 @@ Inv-loop m₀ m = m ≤ 16
 abbrev μ-loop : tie.MeasureT-loop
 μ-loop m₀ m = 16 - m
 
--- src/tables.rt:164:9
 slice-aggregate-say : tie.Need-slice-aggregate-say Inv-loop μ-loop
 slice-aggregate-say c = search needs
 
--- src/tables.rt:164:5
 say-requires : tie.Need-say-requires Inv-loop μ-loop
 say-requires c κs = search needs
 
--- src/tables.rt:166:5
 loop-holds : tie.Need-loop-holds Inv-loop μ-loop
 loop-holds c = search needs
 
--- src/tables.rt:167:17
 add-n : tie.Need-add-n Inv-loop μ-loop
 add-n c = search needs
 
--- src/tables.rt:168:9
 ring-requires : tie.Need-ring-requires Inv-loop μ-loop
 ring-requires c κs = search needs
 
--- src/tables.rt:166:5
 loop-less : tie.Need-loop-less Inv-loop μ-loop
 loop-less c = search needs
 
--- src/tables.rt:166:5
 loop-again : tie.Need-loop-again Inv-loop μ-loop
 loop-again c = search needs
 
--- src/tables.rt:163:1
 returns : tie.Need-returns Inv-loop μ-loop
 returns c = search needs
 

@@ -10,39 +10,30 @@ Inv-loop owner shared s bytes₀ n₀ bytes n = n ≤ 16
 abbrev μ-loop : tie.MeasureT-loop
 μ-loop owner shared s bytes₀ n₀ bytes n = 16 - n
 
--- src/tables.rt:19:5
 loop-holds : tie.Need-loop-holds Inv-loop μ-loop
 loop-holds c = search needs
 
--- src/tables.rt:20:17
 cast-i : tie.Need-cast-i Inv-loop μ-loop
 cast-i c = search needs
 
--- src/tables.rt:22:24
 shared-slice-read-bytes : tie.Need-shared-slice-read-bytes Inv-loop μ-loop
 shared-slice-read-bytes c = search needs
 
--- src/tables.rt:22:13
 array-write-bytes : tie.Need-array-write-bytes Inv-loop μ-loop
 array-write-bytes c = search needs
 
--- src/tables.rt:24:13
 returns : tie.Need-returns Inv-loop μ-loop
 returns c = search needs
 
--- src/tables.rt:31:9
 add-n : tie.Need-add-n Inv-loop μ-loop
 add-n c = search needs
 
--- src/tables.rt:19:5
 loop-less : tie.Need-loop-less Inv-loop μ-loop
 loop-less c = search needs
 
--- src/tables.rt:19:5
 loop-again : tie.Need-loop-again Inv-loop μ-loop
 loop-again c = search needs
 
--- src/tables.rt:16:1
 returns-2 : tie.Need-returns-2 Inv-loop μ-loop
 returns-2 c = search needs
 

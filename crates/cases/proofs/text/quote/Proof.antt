@@ -11,63 +11,48 @@ Inv-loop s i₀ t5 t6 i = i ≤ lib.ListN.length s
 abbrev μ-loop : tie.MeasureT-loop
 μ-loop s i₀ t5 t6 i = lib.ListN.length s - i
 
--- src/text.rt:17:22
 slice-aggregate-write-all : tie.Need-slice-aggregate-write-all Inv-loop μ-loop
 slice-aggregate-write-all c = search needs
 
--- src/text.rt:17:5
 write-all-requires : tie.Need-write-all-requires Inv-loop μ-loop
 write-all-requires c κs = search needs
 
--- src/text.rt:19:5
 loop-holds : tie.Need-loop-holds Inv-loop μ-loop
 loop-holds c = search needs
 
--- src/text.rt:20:18
 shared-slice-read-if1 : tie.Need-shared-slice-read-if1 Inv-loop μ-loop
 shared-slice-read-if1 c = search needs
 
--- src/text.rt:21:12
 array-read-if1 : tie.Need-array-read-if1 Inv-loop μ-loop
 array-read-if1 c = search needs
 
--- src/text.rt:22:30
 slice-aggregate-write-all-2 : tie.Need-slice-aggregate-write-all-2 Inv-loop μ-loop
 slice-aggregate-write-all-2 c = search needs
 
--- src/text.rt:22:13
 write-all-requires-2 : tie.Need-write-all-requires-2 Inv-loop μ-loop
 write-all-requires-2 c κs = search needs
 
--- src/text.rt:24:30
 slice-aggregate-write-all-3 : tie.Need-slice-aggregate-write-all-3 Inv-loop μ-loop
 slice-aggregate-write-all-3 c = search needs
 
--- src/text.rt:24:13
 write-all-requires-3 : tie.Need-write-all-requires-3 Inv-loop μ-loop
 write-all-requires-3 c κs = search needs
 
--- src/text.rt:26:9
 add-i : tie.Need-add-i Inv-loop μ-loop
 add-i c = search needs
 
--- src/text.rt:19:5
 loop-less : tie.Need-loop-less Inv-loop μ-loop
 loop-less c = search needs
 
--- src/text.rt:19:5
 loop-again : tie.Need-loop-again Inv-loop μ-loop
 loop-again c = search needs
 
--- src/text.rt:28:22
 slice-aggregate-write-all-4 : tie.Need-slice-aggregate-write-all-4 Inv-loop μ-loop
 slice-aggregate-write-all-4 c = search needs
 
--- src/text.rt:28:5
 write-all-requires-4 : tie.Need-write-all-requires-4 Inv-loop μ-loop
 write-all-requires-4 c κs = search needs
 
--- src/text.rt:16:1
 returns : tie.Need-returns Inv-loop μ-loop
 returns c = search needs
 

@@ -17,39 +17,30 @@ Inv-loop owner t n k₀ i₀ k i = Walk (t .rows) 32 (t .used) n i × ((k ≤ i)
 abbrev μ-loop : tie.MeasureT-loop
 μ-loop owner t n k₀ i₀ k i = n - i
 
--- src/rows.rt:119:9
 least-requires : tie.Need-least-requires Inv-loop μ-loop
 least-requires c κs = search needs
 
--- src/rows.rt:122:5
 loop-holds : tie.Need-loop-holds Inv-loop μ-loop
 loop-holds c = (walk-start _ _ _ _ (simp length-map at (c .before .good .0 .1 .1 .0 .1 .0 .1)) (c .least .ensures), (search needs, refl))
 
--- src/rows.rt:123:17
 mul-q : tie.Need-mul-q Inv-loop μ-loop
 mul-q c = search needs
 
--- src/rows.rt:123:17
 element-copy-out-q : tie.Need-element-copy-out-q Inv-loop μ-loop
 element-copy-out-q c = search needs
 
--- src/rows.rt:126:13
 waits-behind-requires : tie.Need-waits-behind-requires Inv-loop μ-loop
 waits-behind-requires c κs = search needs
 
--- src/rows.rt:129:13
 add-k : tie.Need-add-k Inv-loop μ-loop
 add-k c = search needs
 
--- src/rows.rt:131:9
 add-i : tie.Need-add-i Inv-loop μ-loop
 add-i c = search needs
 
--- src/rows.rt:122:5
 loop-less : tie.Need-loop-less Inv-loop μ-loop
 loop-less c = search needs
 
--- src/rows.rt:122:5
 loop-again : tie.Need-loop-again Inv-loop μ-loop
 loop-again c =
     let s = c .before .before .before .before in
@@ -66,7 +57,6 @@ loop-again c =
           (c .if2 .came),
     )
 
--- src/rows.rt:116:1
 returns : tie.Need-returns Inv-loop μ-loop
 unfolding waitingOf rowsOf
 returns c = let inv = c .before .loop .inv in rw (← walk-end (inv .0) (c .loop-test .left)) (inv .1 .1)

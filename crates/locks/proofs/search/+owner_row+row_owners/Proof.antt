@@ -59,7 +59,6 @@ owner-row-Inv-loop owners ways c a p k now-open₀ w₀ now-open w = (w ≤ 33) 
 abbrev owner-row-μ-loop : owner-row-lts.MeasureT-loop
 owner-row-μ-loop owners ways c a p k now-open₀ w₀ now-open w = 33 - w
 
--- src/search.rt:127:13
 owner-row-mul-p : (t : ℕ) → owner-row-lts.Need-mul-p (
   place-reads.Asked,
   place-reads.Learnt,
@@ -70,7 +69,6 @@ owner-row-mul-p : (t : ℕ) → owner-row-lts.Need-mul-p (
 ) (owner-row-at t) owner-row.Post owner-row-Inv-loop owner-row-μ-loop
 owner-row-mul-p t c = search needs
 
--- src/search.rt:127:13
 owner-row-element-copy-out-p : (t : ℕ) → owner-row-lts.Need-element-copy-out-p (
   place-reads.Asked,
   place-reads.Learnt,
@@ -81,7 +79,6 @@ owner-row-element-copy-out-p : (t : ℕ) → owner-row-lts.Need-element-copy-out
 ) (owner-row-at t) owner-row.Post owner-row-Inv-loop owner-row-μ-loop
 owner-row-element-copy-out-p t c = search needs
 
--- src/search.rt:128:9
 owner-row-place-requires : (t : ℕ) → owner-row-lts.Need-place-requires (
   place-reads.Asked,
   place-reads.Learnt,
@@ -92,7 +89,6 @@ owner-row-place-requires : (t : ℕ) → owner-row-lts.Need-place-requires (
 ) (owner-row-at t) owner-row.Post owner-row-Inv-loop owner-row-μ-loop
 owner-row-place-requires t c κs = search needs
 
--- src/search.rt:130:8
 owner-row-array-read-if1 : (t : ℕ) → owner-row-lts.Need-array-read-if1 (
   place-reads.Asked,
   place-reads.Learnt,
@@ -106,7 +102,6 @@ owner-row-array-read-if1 t c =
     let h = place-le (s .args .owners .now) (getD (s .args .owners .now) (s .args .a) 0) (s .args .a) refl (s .pre .1) in
     omega (arith, c .place .ensures, s .pre .1)
 
--- src/search.rt:131:9
 owner-row-returns : (t : ℕ) → owner-row-lts.Need-returns (
   place-reads.Asked,
   place-reads.Learnt,
@@ -122,7 +117,6 @@ owner-row-returns t c =
       had = λ _ q e. rw (← e, ← c .before .place .ensures) (c .if1 .taken);
     }
 
--- src/search.rt:136:5
 owner-row-array-write-now-open : (t : ℕ) → owner-row-lts.Need-array-write-now-open (
   place-reads.Asked,
   place-reads.Learnt,
@@ -136,7 +130,6 @@ owner-row-array-write-now-open t c =
     let h = place-le (s .args .owners .now) (getD (s .args .owners .now) (s .args .a) 0) (s .args .a) refl (s .pre .1) in
     omega (arith, c .before .place .ensures, s .pre .1)
 
--- src/search.rt:137:8
 owner-row-closes-requires : (t : ℕ) → owner-row-lts.Need-closes-requires (
   place-reads.Asked,
   place-reads.Learnt,
@@ -147,7 +140,6 @@ owner-row-closes-requires : (t : ℕ) → owner-row-lts.Need-closes-requires (
 ) (owner-row-at t) owner-row.Post owner-row-Inv-loop owner-row-μ-loop
 owner-row-closes-requires t c κs = search needs
 
--- src/search.rt:138:9
 owner-row-returns-2 : (t : ℕ) → owner-row-lts.Need-returns-2 (
   place-reads.Asked,
   place-reads.Learnt,
@@ -163,7 +155,6 @@ owner-row-returns-2 t c =
       had = λ e. absurd (true≢false e);
     }
 
--- src/search.rt:144:5
 owner-row-loop-holds : (t : ℕ) → owner-row-lts.Need-loop-holds (
   place-reads.Asked,
   place-reads.Learnt,
@@ -174,7 +165,6 @@ owner-row-loop-holds : (t : ℕ) → owner-row-lts.Need-loop-holds (
 ) (owner-row-at t) owner-row.Post owner-row-Inv-loop owner-row-μ-loop
 owner-row-loop-holds t c = (search needs, tour-start (search needs))
 
--- src/search.rt:145:12
 owner-row-mul-if3 : (t : ℕ) → owner-row-lts.Need-mul-if3 (
   place-reads.Asked,
   place-reads.Learnt,
@@ -185,7 +175,6 @@ owner-row-mul-if3 : (t : ℕ) → owner-row-lts.Need-mul-if3 (
 ) (owner-row-at t) owner-row.Post owner-row-Inv-loop owner-row-μ-loop
 owner-row-mul-if3 t c = search needs
 
--- src/search.rt:145:12
 owner-row-element-copy-out-if3 : (t : ℕ) → owner-row-lts.Need-element-copy-out-if3 (
   place-reads.Asked,
   place-reads.Learnt,
@@ -196,7 +185,6 @@ owner-row-element-copy-out-if3 : (t : ℕ) → owner-row-lts.Need-element-copy-o
 ) (owner-row-at t) owner-row.Post owner-row-Inv-loop owner-row-μ-loop
 owner-row-element-copy-out-if3 t c = search needs
 
--- src/search.rt:146:17
 owner-row-row-owners-requires : (t : ℕ) → owner-row-lts.Need-row-owners-requires (
   place-reads.Asked,
   place-reads.Learnt,
@@ -216,7 +204,6 @@ owner-row-row-owners-requires t c κs =
     let d = shut-set (s .args .opened) (k .before .place .result) f (k .if1 .left) in
     (omega (arith, s .pre .0), c .before .before .loop-test .taken)
 
--- src/search.rt:148:17
 owner-row-returns-3 : (t : ℕ) → owner-row-lts.Need-returns-3 (
   place-reads.Asked,
   place-reads.Learnt,
@@ -232,7 +219,6 @@ owner-row-returns-3 t c =
       had = λ e. absurd (true≢false (sym (c .if4 .taken) ∙ e));
     }
 
--- src/search.rt:153:9
 owner-row-add-w : (t : ℕ) → owner-row-lts.Need-add-w (
   place-reads.Asked,
   place-reads.Learnt,
@@ -243,7 +229,6 @@ owner-row-add-w : (t : ℕ) → owner-row-lts.Need-add-w (
 ) (owner-row-at t) owner-row.Post owner-row-Inv-loop owner-row-μ-loop
 owner-row-add-w t c = search needs
 
--- src/search.rt:144:5
 owner-row-loop-less : (t : ℕ) → owner-row-lts.Need-loop-less (
   place-reads.Asked,
   place-reads.Learnt,
@@ -254,7 +239,6 @@ owner-row-loop-less : (t : ℕ) → owner-row-lts.Need-loop-less (
 ) (owner-row-at t) owner-row.Post owner-row-Inv-loop owner-row-μ-loop
 owner-row-loop-less t c = search needs
 
--- src/search.rt:144:5
 owner-row-loop-again : (t : ℕ) → owner-row-lts.Need-loop-again (
   place-reads.Asked,
   place-reads.Learnt,
@@ -269,7 +253,6 @@ owner-row-loop-again t c =
       ⊎-elim (λ z. tour-on so-far (z .1 .ensures) (z .2 .left) (λ q h. h .1) (z .4)) (λ z. tour-past so-far (λ q h. z .0 .left (h .0)) (z .1)) (c .if3 .came),
     )
 
--- src/search.rt:123:1
 owner-row-returns-4 : (t : ℕ) → owner-row-lts.Need-returns-4 (
   place-reads.Asked,
   place-reads.Learnt,
@@ -300,14 +283,12 @@ row-owners-Inv-loop owners ways c w now-open₀ a₀ now-open a = (a ≤ w) × T
 abbrev row-owners-μ-loop : row-owners-lts.MeasureT-loop
 row-owners-μ-loop owners ways c w now-open₀ a₀ now-open a = w - a
 
--- src/search.rt:105:5
 row-owners-loop-holds : (t : ℕ) → row-owners-lts.Need-loop-holds (
   owner-row-below t,
   owner-row.Post,
 ) (row-owners-at t) row-owners.Post row-owners-Inv-loop row-owners-μ-loop
 row-owners-loop-holds t c = (search needs, tour-start (search needs))
 
--- src/search.rt:106:17
 row-owners-mul-if1 :
     (t : ℕ) →
     row-owners-lts.Need-mul-if1
@@ -318,7 +299,6 @@ row-owners-mul-if1 :
     row-owners-μ-loop
 row-owners-mul-if1 t c = search needs
 
--- src/search.rt:106:17
 row-owners-add-if1 :
     (t : ℕ) →
     row-owners-lts.Need-add-if1
@@ -329,14 +309,12 @@ row-owners-add-if1 :
     row-owners-μ-loop
 row-owners-add-if1 t c = search needs
 
--- src/search.rt:106:12
 row-owners-element-copy-out-if1 : (t : ℕ) → row-owners-lts.Need-element-copy-out-if1 (
   owner-row-below t,
   owner-row.Post,
 ) (row-owners-at t) row-owners.Post row-owners-Inv-loop row-owners-μ-loop
 row-owners-element-copy-out-if1 t c = search needs
 
--- src/search.rt:107:17
 row-owners-owner-row-requires : (t : ℕ) → row-owners-lts.Need-owner-row-requires (
   owner-row-below t,
   owner-row.Post,
@@ -347,7 +325,6 @@ row-owners-owner-row-requires t c κs =
     let h = grown-shut n (l .loop .inv .1 .grown) in
     (omega (arith, l .before .pre .0), omega (arith, l .before .pre .1, l .loop .inv .0, c .before .before .loop-test .taken))
 
--- src/search.rt:109:17
 row-owners-returns :
     (t : ℕ) →
     row-owners-lts.Need-returns
@@ -367,7 +344,6 @@ row-owners-returns t c =
       had = λ e. absurd (true≢false (sym (c .if2 .taken) ∙ e));
     }
 
--- src/search.rt:114:9
 row-owners-add-a :
     (t : ℕ) →
     row-owners-lts.Need-add-a
@@ -378,7 +354,6 @@ row-owners-add-a :
     row-owners-μ-loop
 row-owners-add-a t c = search needs
 
--- src/search.rt:105:5
 row-owners-loop-less :
     (t : ℕ) →
     row-owners-lts.Need-loop-less
@@ -389,7 +364,6 @@ row-owners-loop-less :
     row-owners-μ-loop
 row-owners-loop-less t c = search needs
 
--- src/search.rt:105:5
 row-owners-loop-again : (t : ℕ) → row-owners-lts.Need-loop-again (
   owner-row-below t,
   owner-row.Post,
@@ -400,7 +374,6 @@ row-owners-loop-again t c =
       ⊎-elim (λ z. tour-on so-far (z .1 .ensures) (z .2 .left) (λ q h. h .1) (z .4)) (λ z. tour-past so-far (λ q h. false≢true (sym (z .0 .left) ∙ h .0)) (z .1)) (c .if1 .came),
     )
 
--- src/search.rt:99:1
 row-owners-returns-2 :
     (t : ℕ) →
     row-owners-lts.Need-returns-2

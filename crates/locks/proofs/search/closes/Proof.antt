@@ -29,51 +29,39 @@ Inv-pairs owners ways p c found₀ w₀ found w = (w ≤ 33) × ((found ≡ fals
 abbrev μ-pairs : tie.MeasureT-pairs
 μ-pairs owners ways p c found₀ w₀ found w = 33 - w
 
--- src/search.rt:83:5
 pairs-holds : tie.Need-pairs-holds Inv-loop μ-loop Inv-pairs μ-pairs
 pairs-holds c = (search needs, (refl, below-none _))
 
--- src/search.rt:84:12
 mul-if1 : tie.Need-mul-if1 Inv-loop μ-loop Inv-pairs μ-pairs
 mul-if1 c = search needs
 
--- src/search.rt:84:12
 element-copy-out-if1 : tie.Need-element-copy-out-if1 Inv-loop μ-loop Inv-pairs μ-pairs
 element-copy-out-if1 c = search needs
 
--- src/search.rt:86:13
 loop-holds : tie.Need-loop-holds Inv-loop μ-loop Inv-pairs μ-pairs
 loop-holds c = (search needs, (c .before .before .before .pairs .inv .1 .0, λ b l m. absurd (omega arith)))
 
--- src/search.rt:87:17
 sub-a : tie.Need-sub-a Inv-loop μ-loop Inv-pairs μ-pairs
 sub-a c = search needs
 
--- src/search.rt:88:20
 mul-if2 : tie.Need-mul-if2 Inv-loop μ-loop Inv-pairs μ-pairs
 mul-if2 c = search needs
 
--- src/search.rt:88:20
 element-copy-out-if2 : tie.Need-element-copy-out-if2 Inv-loop μ-loop Inv-pairs μ-pairs
 element-copy-out-if2 c = search needs
 
--- src/search.rt:89:29
 mul-if3 : tie.Need-mul-if3 Inv-loop μ-loop Inv-pairs μ-pairs
 mul-if3 c = search needs
 
--- src/search.rt:89:29
 add-if3 : tie.Need-add-if3 Inv-loop μ-loop Inv-pairs μ-pairs
 add-if3 c = search needs
 
--- src/search.rt:89:24
 element-copy-out-if3 : tie.Need-element-copy-out-if3 Inv-loop μ-loop Inv-pairs μ-pairs
 element-copy-out-if3 c = search needs
 
--- src/search.rt:86:13
 loop-less : tie.Need-loop-less Inv-loop μ-loop Inv-pairs μ-pairs
 loop-less c = search needs
 
--- src/search.rt:86:13
 loop-again : tie.Need-loop-again Inv-loop μ-loop Inv-pairs μ-pairs
 loop-again c =
     let s = c .before .before .before .before .before in
@@ -81,11 +69,9 @@ loop-again c =
     let inv = s .loop .inv in
     (search needs, (inv .1 .0, one-down (Apart (a .owners .now) (a .ways .now) (a .c) (s .before .before .before .before .pairs .w)) (inv .1 .1) (λ e h. false≢true (sym (c .if3 .left) ∙ h))))
 
--- src/search.rt:86:13
 loop-less-2 : tie.Need-loop-less-2 Inv-loop μ-loop Inv-pairs μ-pairs
 loop-less-2 c = search needs
 
--- src/search.rt:86:13
 loop-again-2 : tie.Need-loop-again-2 Inv-loop μ-loop Inv-pairs μ-pairs
 loop-again-2 c =
     let s = c .before .before .before in
@@ -93,15 +79,12 @@ loop-again-2 c =
     let inv = s .loop .inv in
     (search needs, (inv .1 .0, one-down (Apart (a .owners .now) (a .ways .now) (a .c) (s .before .before .before .before .pairs .w)) (inv .1 .1) (λ e h. c .if2 .left e)))
 
--- src/search.rt:96:9
 add-w : tie.Need-add-w Inv-loop μ-loop Inv-pairs μ-pairs
 add-w c = search needs
 
--- src/search.rt:83:5
 pairs-less : tie.Need-pairs-less Inv-loop μ-loop Inv-pairs μ-pairs
 pairs-less c = search needs
 
--- src/search.rt:83:5
 pairs-again : tie.Need-pairs-again Inv-loop μ-loop Inv-pairs μ-pairs
 pairs-again c =
     let inv = c .before .before .before .pairs .inv in (
@@ -113,13 +96,11 @@ pairs-again c =
       ),
     )
 
--- src/search.rt:78:1
 returns : tie.Need-returns Inv-loop μ-loop Inv-pairs μ-pairs
 returns c =
     let inv = c .before .pairs .inv in
     (λ e. absurd (false≢true (sym (inv .1 .0) ∙ e)), λ l. absurd (inv .1 .1 (l .row) (omega (arith, l .stands)) (l .from) (l .on)))
 
--- src/search.rt:78:1
 returns-2 : tie.Need-returns-2 Inv-loop μ-loop Inv-pairs μ-pairs
 returns-2 c =
     let s = c .before .before .before .before in

@@ -9,23 +9,18 @@ use Rattle.locks.specs.declared.rows.Row.{Row}
 use Rattle.locks.proofs.Drawn.{in-use, asked-length, new-at}
 use Rattle.locks.proofs.Found.{found-exact}
 
--- src/search.rt:165:18
 owners-of-requires : tie.Need-owners-of-requires
 owners-of-requires c κs = search needs
 
--- src/search.rt:166:16
 ways-of-requires : tie.Need-ways-of-requires
 ways-of-requires c κs = search needs
 
--- src/search.rt:167:9
 least-requires : tie.Need-least-requires
 least-requires c κs = search needs
 
--- src/search.rt:168:9
 owner-row-requires : tie.Need-owner-row-requires
 owner-row-requires c κs = search needs
 
--- src/search.rt:162:1
 returns : tie.Need-returns
 returns c =
     let s = c .before .before .before in

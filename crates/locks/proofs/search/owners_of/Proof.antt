@@ -17,54 +17,42 @@ Inv-loop r t n owners₀ i₀ owners i = Used t n × ((i ≤ n) × Listed (rowsO
 abbrev μ-loop : tie.MeasureT-loop
 μ-loop r t n owners₀ i₀ owners i = n - i
 
--- src/search.rt:24:9
 least-requires : tie.Need-least-requires Inv-loop μ-loop
 least-requires c κs = search needs
 
--- src/search.rt:27:5
 loop-holds : tie.Need-loop-holds Inv-loop μ-loop
 loop-holds c = (in-use _ (simp length-map at (c .before .good .0 .1 .1 .0 .1 .0 .1)) (c .least .ensures), (search needs, list-start _))
 
--- src/search.rt:28:17
 mul-q : tie.Need-mul-q Inv-loop μ-loop
 mul-q c = search needs
 
--- src/search.rt:28:17
 element-copy-out-q : tie.Need-element-copy-out-q Inv-loop μ-loop
 element-copy-out-q c = search needs
 
--- src/search.rt:29:9
 mul-owners : tie.Need-mul-owners Inv-loop μ-loop
 mul-owners c = search needs
 
--- src/search.rt:29:9
 array-write-owners : tie.Need-array-write-owners Inv-loop μ-loop
 array-write-owners c = search needs
 
--- src/search.rt:30:9
 add-i : tie.Need-add-i Inv-loop μ-loop
 add-i c = search needs
 
--- src/search.rt:27:5
 loop-less : tie.Need-loop-less Inv-loop μ-loop
 loop-less c = search needs
 
--- src/search.rt:27:5
 loop-again : tie.Need-loop-again Inv-loop μ-loop
 loop-again c =
     let inv = c .before .before .loop .inv in
     let l = c .before .loop-test .taken in
     (inv .0, (search needs, list-next (inv .1 .1) (search needs) (ap (λ (q : Row). q .owner) (old-at _ _ (inv .0) _ _ l))))
 
--- src/search.rt:32:5
 mul-owners-2 : tie.Need-mul-owners-2 Inv-loop μ-loop
 mul-owners-2 c = search needs
 
--- src/search.rt:32:5
 array-write-owners-2 : tie.Need-array-write-owners-2 Inv-loop μ-loop
 array-write-owners-2 c = search needs
 
--- src/search.rt:21:1
 returns : tie.Need-returns Inv-loop μ-loop
 returns c =
     let inv = c .before .loop .inv in

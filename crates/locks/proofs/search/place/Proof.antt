@@ -13,39 +13,31 @@ Inv-loop owners p i₀ i = (i ≤ 33) × (placeOf owners p ≡ placeFrom owners 
 abbrev μ-loop : tie.MeasureT-loop
 μ-loop owners p i₀ i = 33 - i
 
--- src/search.rt:64:5
 loop-holds : tie.Need-loop-holds Inv-loop μ-loop
 loop-holds c = (search needs, refl)
 
--- src/search.rt:65:12
 mul-if1 : tie.Need-mul-if1 Inv-loop μ-loop
 mul-if1 c = search needs
 
--- src/search.rt:65:12
 element-copy-out-if1 : tie.Need-element-copy-out-if1 Inv-loop μ-loop
 element-copy-out-if1 c = search needs
 
--- src/search.rt:66:13
 returns : tie.Need-returns Inv-loop μ-loop
 returns c =
     let l = c .before .before .before .loop in
     sym (l .inv .1 ∙ place-here _ _ (l .i) {m = 32 - l .i} (search needs) (c .if1 .taken))
 
--- src/search.rt:68:9
 add-i : tie.Need-add-i Inv-loop μ-loop
 add-i c = search needs
 
--- src/search.rt:64:5
 loop-less : tie.Need-loop-less Inv-loop μ-loop
 loop-less c = search needs
 
--- src/search.rt:64:5
 loop-again : tie.Need-loop-again Inv-loop μ-loop
 loop-again c =
     let l = c .before .before .before .loop in
     (search needs, l .inv .1 ∙ place-next _ _ (l .i) {m = 33 - (l .i + 1)} (search needs) (c .if1 .left))
 
--- src/search.rt:60:1
 returns-2 : tie.Need-returns-2 Inv-loop μ-loop
 returns-2 c = let l = c .before .loop in sym (l .inv .1 ∙ place-past _ _ (l .i) (search needs))
 

@@ -23,59 +23,45 @@ Inv-loop r t n ways₀ w₀ ways w = Used t n × ((w ≤ n + 1) × Filled (rowsO
 abbrev μ-loop : tie.MeasureT-loop
 μ-loop r t n ways₀ w₀ ways w = n + 1 - w
 
--- src/search.rt:40:9
 least-requires : tie.Need-least-requires Inv-loop2 μ-loop2 Inv-loop μ-loop
 least-requires c κs = search needs
 
--- src/search.rt:43:5
 loop-holds : tie.Need-loop-holds Inv-loop2 μ-loop2 Inv-loop μ-loop
 loop-holds c = (in-use _ (simp length-map at (c .before .good .0 .1 .1 .0 .1 .0 .1)) (c .least .ensures), (search needs, fill-start _))
 
--- src/search.rt:46:21
 mul-y : tie.Need-mul-y Inv-loop2 μ-loop2 Inv-loop μ-loop
 mul-y c = search needs
 
--- src/search.rt:46:21
 element-copy-out-y : tie.Need-element-copy-out-y Inv-loop2 μ-loop2 Inv-loop μ-loop
 element-copy-out-y c = search needs
 
--- src/search.rt:50:9
 loop2-holds : tie.Need-loop2-holds Inv-loop2 μ-loop2 Inv-loop μ-loop
 loop2-holds c = (search needs, c .before .before .loop .inv .1 .1)
 
--- src/search.rt:51:21
 mul-y-2 : tie.Need-mul-y-2 Inv-loop2 μ-loop2 Inv-loop μ-loop
 mul-y-2 c = search needs
 
--- src/search.rt:51:21
 element-copy-out-y-2 : tie.Need-element-copy-out-y-2 Inv-loop2 μ-loop2 Inv-loop μ-loop
 element-copy-out-y-2 c = search needs
 
--- src/search.rt:52:32
 conflicts-requires : tie.Need-conflicts-requires Inv-loop2 μ-loop2 Inv-loop μ-loop
 conflicts-requires c κs = search needs
 
--- src/search.rt:52:18
 mul-ways : tie.Need-mul-ways Inv-loop2 μ-loop2 Inv-loop μ-loop
 mul-ways c = search needs
 
--- src/search.rt:52:18
 add-ways : tie.Need-add-ways Inv-loop2 μ-loop2 Inv-loop μ-loop
 add-ways c = search needs
 
--- src/search.rt:52:13
 array-write-ways : tie.Need-array-write-ways Inv-loop2 μ-loop2 Inv-loop μ-loop
 array-write-ways c = search needs
 
--- src/search.rt:53:13
 add-a : tie.Need-add-a Inv-loop2 μ-loop2 Inv-loop μ-loop
 add-a c = search needs
 
--- src/search.rt:50:9
 loop2-less : tie.Need-loop2-less Inv-loop2 μ-loop2 Inv-loop μ-loop
 loop2-less c = search needs
 
--- src/search.rt:50:9
 loop2-again : tie.Need-loop2-again Inv-loop2 μ-loop2 Inv-loop μ-loop
 loop2-again c =
     let s = c .before .before .before .before .before in
@@ -92,21 +78,17 @@ loop2-again c =
     let l : v .a < n = omega (arith, s .loop-test .taken, t) in
     (search needs, fill-next (v .inv .1) (search needs) t (conflict-as _ _ _ _ (c .conflicts .ensures) x (old-at _ _ u _ _ l)))
 
--- src/search.rt:55:9
 add-w : tie.Need-add-w Inv-loop2 μ-loop2 Inv-loop μ-loop
 add-w c = search needs
 
--- src/search.rt:43:5
 loop-less : tie.Need-loop-less Inv-loop2 μ-loop2 Inv-loop μ-loop
 loop-less c = search needs
 
--- src/search.rt:43:5
 loop-again : tie.Need-loop-again Inv-loop2 μ-loop2 Inv-loop μ-loop
 loop-again c =
     let s = c .before .before .before .before in
     (s .loop .inv .0, (search needs, fill-row (c .before .loop2 .inv .1) (search needs) (c .loop2-test .left) (c .before .loop2 .inv .0)))
 
--- src/search.rt:37:1
 returns : tie.Need-returns Inv-loop2 μ-loop2 Inv-loop μ-loop
 returns c =
     let inv = c .before .loop .inv in
