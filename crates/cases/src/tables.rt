@@ -142,24 +142,13 @@ fn one(owner: u8, x: u8) -> Row {
     }
 }
 
-// Each of 1 to n holds the sequence of its own number.
-fn holders(n: u8) -> Table {
-    let mut t = no_rows();
-    let mut p: u8 = 0;
-    while p < n {
-        p += 1;
-        t = append(t, one(p, p));
-    }
-    t
-}
-
-// And each but n waits for the next one's.
+// Each of 1 to n holds the sequence of its own number, and each but n waits for the next one's.
 fn line(n: u8) -> Table {
-    let mut t = holders(n);
+    let mut t = append(no_rows(), one(1, 1));
     let mut p: u8 = 1;
     while p < n {
         let next = p + 1;
-        t = append(t, one(p, next));
+        t = append(append(t, one(next, next)), one(p, next));
         p = next;
     }
     t

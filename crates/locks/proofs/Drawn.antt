@@ -35,9 +35,6 @@ unfolding rowsOf
 in-use t l e = record { long = l; room = omega arith; most = omega arith; count = length-take (t .used) (t .rows) ∙ rw (l, e) }
 
 module _ (t : Table) (r : Row) {n : ℕ} (u : Used t n) where
-  abbrev asked : List Row
-  asked = rowsOf t ++ r ∷ []
-
   pub asked-length : length (rowsOf t ++ r ∷ []) ≡ n + 1
   asked-length = rw (length-append, u .count)
 

@@ -50,8 +50,8 @@ module _ (owners : List ℕ) (p j : ℕ) (own : getD owners j 0 ≡ p) where
   pub place-own : j < 33 → getD owners (placeOf owners p) 0 ≡ p
   place-own l = first 0 33 (omega arith) (omega arith) .1
 
-pub place-fits : (owners : List ℕ) (a k : ℕ) (o : List Bool) → a < 33 → k ≡ placeOf owners (getD owners a 0) → length o ≡ 33 → k < length o
-place-fits owners a k o l e s = let h = place-le owners (getD owners a 0) a refl l in omega arith
+pub place-fits : (owners : List ℕ) (a k : ℕ) → a < 33 → k ≡ placeOf owners (getD owners a 0) → k < 33
+place-fits owners a k l e = let h = place-le owners (getD owners a 0) a refl l in omega arith
 
 -- ---- how many are not opened
 

@@ -11,8 +11,14 @@ Inv-loop n t₀ p₀ t p = Unit
 abbrev μ-loop : tie.MeasureT-loop
 μ-loop n t₀ p₀ t p = n - p
 
-holders-requires : tie.Need-holders-requires Inv-loop μ-loop
-holders-requires c κs = search needs
+no-rows-requires : tie.Need-no-rows-requires Inv-loop μ-loop
+no-rows-requires c κs = search needs
+
+one-requires : tie.Need-one-requires Inv-loop μ-loop
+one-requires c κs = search needs
+
+append-requires : tie.Need-append-requires Inv-loop μ-loop
+append-requires c κs = search needs
 
 loop-holds : tie.Need-loop-holds Inv-loop μ-loop
 loop-holds c = search needs
@@ -20,11 +26,17 @@ loop-holds c = search needs
 add-next : tie.Need-add-next Inv-loop μ-loop
 add-next c = search needs
 
-one-requires : tie.Need-one-requires Inv-loop μ-loop
-one-requires c κs = search needs
+one-requires-2 : tie.Need-one-requires-2 Inv-loop μ-loop
+one-requires-2 c κs = search needs
 
-append-requires : tie.Need-append-requires Inv-loop μ-loop
-append-requires c κs = search needs
+append-requires-2 : tie.Need-append-requires-2 Inv-loop μ-loop
+append-requires-2 c κs = search needs
+
+one-requires-3 : tie.Need-one-requires-3 Inv-loop μ-loop
+one-requires-3 c κs = search needs
+
+append-requires-3 : tie.Need-append-requires-3 Inv-loop μ-loop
+append-requires-3 c κs = search needs
 
 loop-less : tie.Need-loop-less Inv-loop μ-loop
 loop-less c = search needs
@@ -41,11 +53,15 @@ line-spec =
     (tie.spec
     Inv-loop
     μ-loop
-    holders-requires
-    loop-holds
-    add-next
+    no-rows-requires
     one-requires
     append-requires
+    loop-holds
+    add-next
+    one-requires-2
+    append-requires-2
+    one-requires-3
+    append-requires-3
     loop-less
     loop-again
     returns)

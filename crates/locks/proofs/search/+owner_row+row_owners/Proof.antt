@@ -22,7 +22,7 @@ use mathlib.Core.Logic.{⊎-elim}
 use lib.ListN.{length, getD, set}
 use Rattle.locks.specs.Chains.{one, more}
 use Rattle.locks.specs.Search.{inWay, RowLeads}
-use Rattle.locks.proofs.Opened.{shut, shut-set, place-le, place-fits, grown-refl, grown-shut, opened-in, opening, Toured, tour-start, tour-past, tour-on}
+use Rattle.locks.proofs.Opened.{shut, shut-set, place-fits, grown-refl, grown-shut, opened-in, opening, Toured, tour-start, tour-past, tour-on}
 
 -- row v is p's and leads to q
 abbrev OwnLeads : List ℕ → List Bool → ℕ → ℕ → ℕ → Type 0
@@ -53,63 +53,34 @@ abbrev row-owners-below : ℕ → In 1 row-owners-kinds.ps
 row-owners-below t =
     and 1 row-owners-kinds.ps (falls 1 row-owners-kinds.ps _<_ μ-row-owners t) row-owners.Pre
 
+-- what is known of the functions that each calls
+abbrev owner-row-claims : ℕ → owner-row-lts.Claims
+owner-row-claims t = (place-reads.Asked, place-reads.Learnt, closes-reads.Asked, closes-reads.Learnt, row-owners-below t, row-owners.Post)
+
+abbrev row-owners-claims : ℕ → row-owners-lts.Claims
+row-owners-claims t = (owner-row-below t, owner-row.Post)
+
 abbrev owner-row-Inv-loop : owner-row-lts.InvT-loop
 owner-row-Inv-loop owners ways c a p k now-open₀ w₀ now-open w = (w ≤ 33) × Toured owners ways c (OwnLeads owners ways p) w now-open₀ now-open
 
 abbrev owner-row-μ-loop : owner-row-lts.MeasureT-loop
 owner-row-μ-loop owners ways c a p k now-open₀ w₀ now-open w = 33 - w
 
-owner-row-mul-p : (t : ℕ) → owner-row-lts.Need-mul-p (
-  place-reads.Asked,
-  place-reads.Learnt,
-  closes-reads.Asked,
-  closes-reads.Learnt,
-  row-owners-below t,
-  row-owners.Post,
-) (owner-row-at t) owner-row.Post owner-row-Inv-loop owner-row-μ-loop
+owner-row-mul-p : (t : ℕ) → owner-row-lts.Need-mul-p (owner-row-claims t) (owner-row-at t) owner-row.Post owner-row-Inv-loop owner-row-μ-loop
 owner-row-mul-p t c = search needs
 
-owner-row-element-copy-out-p : (t : ℕ) → owner-row-lts.Need-element-copy-out-p (
-  place-reads.Asked,
-  place-reads.Learnt,
-  closes-reads.Asked,
-  closes-reads.Learnt,
-  row-owners-below t,
-  row-owners.Post,
-) (owner-row-at t) owner-row.Post owner-row-Inv-loop owner-row-μ-loop
+owner-row-element-copy-out-p : (t : ℕ) → owner-row-lts.Need-element-copy-out-p (owner-row-claims t) (owner-row-at t) owner-row.Post owner-row-Inv-loop owner-row-μ-loop
 owner-row-element-copy-out-p t c = search needs
 
-owner-row-place-requires : (t : ℕ) → owner-row-lts.Need-place-requires (
-  place-reads.Asked,
-  place-reads.Learnt,
-  closes-reads.Asked,
-  closes-reads.Learnt,
-  row-owners-below t,
-  row-owners.Post,
-) (owner-row-at t) owner-row.Post owner-row-Inv-loop owner-row-μ-loop
+owner-row-place-requires : (t : ℕ) → owner-row-lts.Need-place-requires (owner-row-claims t) (owner-row-at t) owner-row.Post owner-row-Inv-loop owner-row-μ-loop
 owner-row-place-requires t c κs = search needs
 
-owner-row-array-read-if1 : (t : ℕ) → owner-row-lts.Need-array-read-if1 (
-  place-reads.Asked,
-  place-reads.Learnt,
-  closes-reads.Asked,
-  closes-reads.Learnt,
-  row-owners-below t,
-  row-owners.Post,
-) (owner-row-at t) owner-row.Post owner-row-Inv-loop owner-row-μ-loop
+owner-row-array-read-if1 : (t : ℕ) → owner-row-lts.Need-array-read-if1 (owner-row-claims t) (owner-row-at t) owner-row.Post owner-row-Inv-loop owner-row-μ-loop
 owner-row-array-read-if1 t c =
     let s = c .before .before in
-    let h = place-le (s .args .owners .now) (getD (s .args .owners .now) (s .args .a) 0) (s .args .a) refl (s .pre .1) in
-    omega (arith, c .place .ensures, s .pre .1)
+    place-fits (s .args .owners .now) (s .args .a) _ (s .pre .1) (c .place .ensures)
 
-owner-row-returns : (t : ℕ) → owner-row-lts.Need-returns (
-  place-reads.Asked,
-  place-reads.Learnt,
-  closes-reads.Asked,
-  closes-reads.Learnt,
-  row-owners-below t,
-  row-owners.Post,
-) (owner-row-at t) owner-row.Post owner-row-Inv-loop owner-row-μ-loop
+owner-row-returns : (t : ℕ) → owner-row-lts.Need-returns (owner-row-claims t) (owner-row-at t) owner-row.Post owner-row-Inv-loop owner-row-μ-loop
 owner-row-returns t c =
     record {
       back = λ e. absurd (false≢true e);
@@ -117,37 +88,15 @@ owner-row-returns t c =
       had = λ _ q e. rw (← e, ← c .before .place .ensures) (c .if1 .taken);
     }
 
-owner-row-array-write-now-open : (t : ℕ) → owner-row-lts.Need-array-write-now-open (
-  place-reads.Asked,
-  place-reads.Learnt,
-  closes-reads.Asked,
-  closes-reads.Learnt,
-  row-owners-below t,
-  row-owners.Post,
-) (owner-row-at t) owner-row.Post owner-row-Inv-loop owner-row-μ-loop
+owner-row-array-write-now-open : (t : ℕ) → owner-row-lts.Need-array-write-now-open (owner-row-claims t) (owner-row-at t) owner-row.Post owner-row-Inv-loop owner-row-μ-loop
 owner-row-array-write-now-open t c =
     let s = c .before .before .before in
-    let h = place-le (s .args .owners .now) (getD (s .args .owners .now) (s .args .a) 0) (s .args .a) refl (s .pre .1) in
-    omega (arith, c .before .place .ensures, s .pre .1)
+    place-fits (s .args .owners .now) (s .args .a) _ (s .pre .1) (c .before .place .ensures)
 
-owner-row-closes-requires : (t : ℕ) → owner-row-lts.Need-closes-requires (
-  place-reads.Asked,
-  place-reads.Learnt,
-  closes-reads.Asked,
-  closes-reads.Learnt,
-  row-owners-below t,
-  row-owners.Post,
-) (owner-row-at t) owner-row.Post owner-row-Inv-loop owner-row-μ-loop
+owner-row-closes-requires : (t : ℕ) → owner-row-lts.Need-closes-requires (owner-row-claims t) (owner-row-at t) owner-row.Post owner-row-Inv-loop owner-row-μ-loop
 owner-row-closes-requires t c κs = search needs
 
-owner-row-returns-2 : (t : ℕ) → owner-row-lts.Need-returns-2 (
-  place-reads.Asked,
-  place-reads.Learnt,
-  closes-reads.Asked,
-  closes-reads.Learnt,
-  row-owners-below t,
-  row-owners.Post,
-) (owner-row-at t) owner-row.Post owner-row-Inv-loop owner-row-μ-loop
+owner-row-returns-2 : (t : ℕ) → owner-row-lts.Need-returns-2 (owner-row-claims t) (owner-row-at t) owner-row.Post owner-row-Inv-loop owner-row-μ-loop
 owner-row-returns-2 t c =
     record {
       back = λ _. one (c .before .closes .ensures .0 (c .if2 .taken));
@@ -155,63 +104,28 @@ owner-row-returns-2 t c =
       had = λ e. absurd (true≢false e);
     }
 
-owner-row-loop-holds : (t : ℕ) → owner-row-lts.Need-loop-holds (
-  place-reads.Asked,
-  place-reads.Learnt,
-  closes-reads.Asked,
-  closes-reads.Learnt,
-  row-owners-below t,
-  row-owners.Post,
-) (owner-row-at t) owner-row.Post owner-row-Inv-loop owner-row-μ-loop
+owner-row-loop-holds : (t : ℕ) → owner-row-lts.Need-loop-holds (owner-row-claims t) (owner-row-at t) owner-row.Post owner-row-Inv-loop owner-row-μ-loop
 owner-row-loop-holds t c = (search needs, tour-start (search needs))
 
-owner-row-mul-if3 : (t : ℕ) → owner-row-lts.Need-mul-if3 (
-  place-reads.Asked,
-  place-reads.Learnt,
-  closes-reads.Asked,
-  closes-reads.Learnt,
-  row-owners-below t,
-  row-owners.Post,
-) (owner-row-at t) owner-row.Post owner-row-Inv-loop owner-row-μ-loop
+owner-row-mul-if3 : (t : ℕ) → owner-row-lts.Need-mul-if3 (owner-row-claims t) (owner-row-at t) owner-row.Post owner-row-Inv-loop owner-row-μ-loop
 owner-row-mul-if3 t c = search needs
 
-owner-row-element-copy-out-if3 : (t : ℕ) → owner-row-lts.Need-element-copy-out-if3 (
-  place-reads.Asked,
-  place-reads.Learnt,
-  closes-reads.Asked,
-  closes-reads.Learnt,
-  row-owners-below t,
-  row-owners.Post,
-) (owner-row-at t) owner-row.Post owner-row-Inv-loop owner-row-μ-loop
+owner-row-element-copy-out-if3 : (t : ℕ) → owner-row-lts.Need-element-copy-out-if3 (owner-row-claims t) (owner-row-at t) owner-row.Post owner-row-Inv-loop owner-row-μ-loop
 owner-row-element-copy-out-if3 t c = search needs
 
-owner-row-row-owners-requires : (t : ℕ) → owner-row-lts.Need-row-owners-requires (
-  place-reads.Asked,
-  place-reads.Learnt,
-  closes-reads.Asked,
-  closes-reads.Learnt,
-  row-owners-below t,
-  row-owners.Post,
-) (owner-row-at t) owner-row.Post owner-row-Inv-loop owner-row-μ-loop
+owner-row-row-owners-requires : (t : ℕ) → owner-row-lts.Need-row-owners-requires (owner-row-claims t) (owner-row-at t) owner-row.Post owner-row-Inv-loop owner-row-μ-loop
 owner-row-row-owners-requires t c κs =
     let l = c .before .before .before in
     let k = l .before .before .before in
     let s = k .before .before .before in
     let n : length (s .args .opened) ≡ 33 = search needs in
     let m : length (set (s .args .opened) (k .before .place .result) true) ≡ 33 = search needs in
-    let f = place-fits (s .args .owners .now) (s .args .a) (k .before .place .result) (s .args .opened) (s .pre .1) (k .before .place .ensures) n in
+    let f : k .before .place .result < length (s .args .opened) = omega (arith, place-fits (s .args .owners .now) (s .args .a) _ (s .pre .1) (k .before .place .ensures)) in
     let h = grown-shut m (l .loop .inv .1 .grown) in
     let d = shut-set (s .args .opened) (k .before .place .result) f (k .if1 .left) in
     (omega (arith, s .pre .0), c .before .before .loop-test .taken)
 
-owner-row-returns-3 : (t : ℕ) → owner-row-lts.Need-returns-3 (
-  place-reads.Asked,
-  place-reads.Learnt,
-  closes-reads.Asked,
-  closes-reads.Learnt,
-  row-owners-below t,
-  row-owners.Post,
-) (owner-row-at t) owner-row.Post owner-row-Inv-loop owner-row-μ-loop
+owner-row-returns-3 : (t : ℕ) → owner-row-lts.Need-returns-3 (owner-row-claims t) (owner-row-at t) owner-row.Post owner-row-Inv-loop owner-row-μ-loop
 owner-row-returns-3 t c =
     record {
       back = λ e. rw (← c .before .before .if3 .taken) (c .before .row-owners .ensures .back e);
@@ -219,54 +133,26 @@ owner-row-returns-3 t c =
       had = λ e. absurd (true≢false (sym (c .if4 .taken) ∙ e));
     }
 
-owner-row-add-w : (t : ℕ) → owner-row-lts.Need-add-w (
-  place-reads.Asked,
-  place-reads.Learnt,
-  closes-reads.Asked,
-  closes-reads.Learnt,
-  row-owners-below t,
-  row-owners.Post,
-) (owner-row-at t) owner-row.Post owner-row-Inv-loop owner-row-μ-loop
+owner-row-add-w : (t : ℕ) → owner-row-lts.Need-add-w (owner-row-claims t) (owner-row-at t) owner-row.Post owner-row-Inv-loop owner-row-μ-loop
 owner-row-add-w t c = search needs
 
-owner-row-loop-less : (t : ℕ) → owner-row-lts.Need-loop-less (
-  place-reads.Asked,
-  place-reads.Learnt,
-  closes-reads.Asked,
-  closes-reads.Learnt,
-  row-owners-below t,
-  row-owners.Post,
-) (owner-row-at t) owner-row.Post owner-row-Inv-loop owner-row-μ-loop
+owner-row-loop-less : (t : ℕ) → owner-row-lts.Need-loop-less (owner-row-claims t) (owner-row-at t) owner-row.Post owner-row-Inv-loop owner-row-μ-loop
 owner-row-loop-less t c = search needs
 
-owner-row-loop-again : (t : ℕ) → owner-row-lts.Need-loop-again (
-  place-reads.Asked,
-  place-reads.Learnt,
-  closes-reads.Asked,
-  closes-reads.Learnt,
-  row-owners-below t,
-  row-owners.Post,
-) (owner-row-at t) owner-row.Post owner-row-Inv-loop owner-row-μ-loop
+owner-row-loop-again : (t : ℕ) → owner-row-lts.Need-loop-again (owner-row-claims t) (owner-row-at t) owner-row.Post owner-row-Inv-loop owner-row-μ-loop
 owner-row-loop-again t c =
     let so-far = c .before .before .before .loop .inv .1 in (
       search needs,
       ⊎-elim (λ z. tour-on so-far (z .1 .ensures) (z .2 .left) (λ q h. h .1) (z .4)) (λ z. tour-past so-far (λ q h. z .0 .left (h .0)) (z .1)) (c .if3 .came),
     )
 
-owner-row-returns-4 : (t : ℕ) → owner-row-lts.Need-returns-4 (
-  place-reads.Asked,
-  place-reads.Learnt,
-  closes-reads.Asked,
-  closes-reads.Learnt,
-  row-owners-below t,
-  row-owners.Post,
-) (owner-row-at t) owner-row.Post owner-row-Inv-loop owner-row-μ-loop
+owner-row-returns-4 : (t : ℕ) → owner-row-lts.Need-returns-4 (owner-row-claims t) (owner-row-at t) owner-row.Post owner-row-Inv-loop owner-row-μ-loop
 owner-row-returns-4 t c =
     let inv = c .before .loop .inv in
     let k = c .before .before .before .before .before in
     let s = k .before .before in
     let n : length (s .args .opened) ≡ 33 = search needs in
-    let f = place-fits (s .args .owners .now) (s .args .a) (k .place .result) (s .args .opened) (s .pre .1) (k .place .ensures) n in
+    let f : k .place .result < length (s .args .opened) = omega (arith, place-fits (s .args .owners .now) (s .args .a) _ (s .pre .1) (k .place .ensures)) in
     let o = s .args .owners .now in
     let y = s .args .ways .now in
     record {
@@ -283,56 +169,26 @@ row-owners-Inv-loop owners ways c w now-open₀ a₀ now-open a = (a ≤ w) × T
 abbrev row-owners-μ-loop : row-owners-lts.MeasureT-loop
 row-owners-μ-loop owners ways c w now-open₀ a₀ now-open a = w - a
 
-row-owners-loop-holds : (t : ℕ) → row-owners-lts.Need-loop-holds (
-  owner-row-below t,
-  owner-row.Post,
-) (row-owners-at t) row-owners.Post row-owners-Inv-loop row-owners-μ-loop
+row-owners-loop-holds : (t : ℕ) → row-owners-lts.Need-loop-holds (row-owners-claims t) (row-owners-at t) row-owners.Post row-owners-Inv-loop row-owners-μ-loop
 row-owners-loop-holds t c = (search needs, tour-start (search needs))
 
-row-owners-mul-if1 :
-    (t : ℕ) →
-    row-owners-lts.Need-mul-if1
-    (owner-row-below t, owner-row.Post)
-    (row-owners-at t)
-    row-owners.Post
-    row-owners-Inv-loop
-    row-owners-μ-loop
+row-owners-mul-if1 : (t : ℕ) → row-owners-lts.Need-mul-if1 (row-owners-claims t) (row-owners-at t) row-owners.Post row-owners-Inv-loop row-owners-μ-loop
 row-owners-mul-if1 t c = search needs
 
-row-owners-add-if1 :
-    (t : ℕ) →
-    row-owners-lts.Need-add-if1
-    (owner-row-below t, owner-row.Post)
-    (row-owners-at t)
-    row-owners.Post
-    row-owners-Inv-loop
-    row-owners-μ-loop
+row-owners-add-if1 : (t : ℕ) → row-owners-lts.Need-add-if1 (row-owners-claims t) (row-owners-at t) row-owners.Post row-owners-Inv-loop row-owners-μ-loop
 row-owners-add-if1 t c = search needs
 
-row-owners-element-copy-out-if1 : (t : ℕ) → row-owners-lts.Need-element-copy-out-if1 (
-  owner-row-below t,
-  owner-row.Post,
-) (row-owners-at t) row-owners.Post row-owners-Inv-loop row-owners-μ-loop
+row-owners-element-copy-out-if1 : (t : ℕ) → row-owners-lts.Need-element-copy-out-if1 (row-owners-claims t) (row-owners-at t) row-owners.Post row-owners-Inv-loop row-owners-μ-loop
 row-owners-element-copy-out-if1 t c = search needs
 
-row-owners-owner-row-requires : (t : ℕ) → row-owners-lts.Need-owner-row-requires (
-  owner-row-below t,
-  owner-row.Post,
-) (row-owners-at t) row-owners.Post row-owners-Inv-loop row-owners-μ-loop
+row-owners-owner-row-requires : (t : ℕ) → row-owners-lts.Need-owner-row-requires (row-owners-claims t) (row-owners-at t) row-owners.Post row-owners-Inv-loop row-owners-μ-loop
 row-owners-owner-row-requires t c κs =
     let l = c .before .before .before in
     let n : length (l .before .args .opened) ≡ 33 = search needs in
     let h = grown-shut n (l .loop .inv .1 .grown) in
     (omega (arith, l .before .pre .0), omega (arith, l .before .pre .1, l .loop .inv .0, c .before .before .loop-test .taken))
 
-row-owners-returns :
-    (t : ℕ) →
-    row-owners-lts.Need-returns
-    (owner-row-below t, owner-row.Post)
-    (row-owners-at t)
-    row-owners.Post
-    row-owners-Inv-loop
-    row-owners-μ-loop
+row-owners-returns : (t : ℕ) → row-owners-lts.Need-returns (row-owners-claims t) (row-owners-at t) row-owners.Post row-owners-Inv-loop row-owners-μ-loop
 row-owners-returns t c =
     let s = c .before .before .before .before .before in
     let o = s .before .args .owners .now in
@@ -344,44 +200,20 @@ row-owners-returns t c =
       had = λ e. absurd (true≢false (sym (c .if2 .taken) ∙ e));
     }
 
-row-owners-add-a :
-    (t : ℕ) →
-    row-owners-lts.Need-add-a
-    (owner-row-below t, owner-row.Post)
-    (row-owners-at t)
-    row-owners.Post
-    row-owners-Inv-loop
-    row-owners-μ-loop
+row-owners-add-a : (t : ℕ) → row-owners-lts.Need-add-a (row-owners-claims t) (row-owners-at t) row-owners.Post row-owners-Inv-loop row-owners-μ-loop
 row-owners-add-a t c = search needs
 
-row-owners-loop-less :
-    (t : ℕ) →
-    row-owners-lts.Need-loop-less
-    (owner-row-below t, owner-row.Post)
-    (row-owners-at t)
-    row-owners.Post
-    row-owners-Inv-loop
-    row-owners-μ-loop
+row-owners-loop-less : (t : ℕ) → row-owners-lts.Need-loop-less (row-owners-claims t) (row-owners-at t) row-owners.Post row-owners-Inv-loop row-owners-μ-loop
 row-owners-loop-less t c = search needs
 
-row-owners-loop-again : (t : ℕ) → row-owners-lts.Need-loop-again (
-  owner-row-below t,
-  owner-row.Post,
-) (row-owners-at t) row-owners.Post row-owners-Inv-loop row-owners-μ-loop
+row-owners-loop-again : (t : ℕ) → row-owners-lts.Need-loop-again (row-owners-claims t) (row-owners-at t) row-owners.Post row-owners-Inv-loop row-owners-μ-loop
 row-owners-loop-again t c =
     let so-far = c .before .before .before .loop .inv .1 in (
       search needs,
       ⊎-elim (λ z. tour-on so-far (z .1 .ensures) (z .2 .left) (λ q h. h .1) (z .4)) (λ z. tour-past so-far (λ q h. false≢true (sym (z .0 .left) ∙ h .0)) (z .1)) (c .if1 .came),
     )
 
-row-owners-returns-2 :
-    (t : ℕ) →
-    row-owners-lts.Need-returns-2
-    (owner-row-below t, owner-row.Post)
-    (row-owners-at t)
-    row-owners.Post
-    row-owners-Inv-loop
-    row-owners-μ-loop
+row-owners-returns-2 : (t : ℕ) → row-owners-lts.Need-returns-2 (row-owners-claims t) (row-owners-at t) row-owners.Post row-owners-Inv-loop row-owners-μ-loop
 row-owners-returns-2 t c =
     let inv = c .before .loop .inv in
     record {
@@ -391,14 +223,7 @@ row-owners-returns-2 t c =
     }
 
 pub +owner-row+row-owners-spec : {M : Type 1} → statement M
-+owner-row+row-owners-spec = close μ-owner-row μ-row-owners (λ t. owner-row-lts.spec (
-  place-reads.Asked,
-  place-reads.Learnt,
-  closes-reads.Asked,
-  closes-reads.Learnt,
-  row-owners-below t,
-  row-owners.Post,
-)
++owner-row+row-owners-spec = close μ-owner-row μ-row-owners (λ t. owner-row-lts.spec (owner-row-claims t)
     (owner-row-at t)
     owner-row.Post
     owner-row-Inv-loop
@@ -421,7 +246,7 @@ pub +owner-row+row-owners-spec : {M : Type 1} → statement M
     (owner-row-loop-again t)
     (owner-row-returns-4 t))
     λ t. row-owners-lts.spec
-    (owner-row-below t, owner-row.Post)
+    (row-owners-claims t)
     (row-owners-at t)
     row-owners.Post
     row-owners-Inv-loop
