@@ -86,13 +86,13 @@ shut-le (false ∷ o) (false ∷ r) s h = suc-le-suc (shut-le o r (suc-inj s) (�
 
 module _ {owners : List ℕ} {ways : List Bool} {c : ℕ} where
   pub grown-refl : {o : List Bool} → length o ≡ 33 → Grown owners ways c o o
-  grown-refl s = record { size = s; keeps = λ k h. h; shut = λ p q h n l. absurd (n h) }
+  grown-refl s = record { size = s; keeps = λ k h. h; closed = λ p q h n l. absurd (n h) }
 
   pub grown-then : {o u r : List Bool} → Grown owners ways c o u → Grown owners ways c u r → Grown owners ways c o r
   grown-then {u = u} g h = record {
     size = h .size;
     keeps = λ k e. h .keeps k (g .keeps k e);
-    shut = λ p q e n l. cases (getD u (placeOf owners p) false) (λ y. let s = g .shut p q y n l in (h .keeps _ (s .0), s .1)) (λ y. h .shut p q e (λ z. true≢false (sym z ∙ y)) l);
+    closed = λ p q e n l. cases (getD u (placeOf owners p) false) (λ y. let s = g .closed p q y n l in (h .keeps _ (s .0), s .1)) (λ y. h .closed p q e (λ z. true≢false (sym z ∙ y)) l);
   }
 
   pub grown-shut : {o r : List Bool} → length o ≡ 33 → Grown owners ways c o r → shut r ≤ shut o
@@ -115,8 +115,8 @@ module _ (owners : List ℕ) (ways : List Bool) (c p k a : ℕ) (o : List Bool) 
   opening stands none on = record {
     size = g .size;
     keeps = λ j h. g .keeps j (flag-still o k l j h);
-    shut = λ x q h n f. cases (eqb (placeOf owners x) k) (λ e. here x q f (eqb-true (placeOf owners x) k e))
-        (λ e. let d : placeOf owners x ≡ k → ⊥ = eqb-false (placeOf owners x) k e in g .shut x q h (λ y. n (rw getD-set-other at y)) f);
+    closed = λ x q h n f. cases (eqb (placeOf owners x) k) (λ e. here x q f (eqb-true (placeOf owners x) k e))
+        (λ e. let d : placeOf owners x ≡ k → ⊥ = eqb-false (placeOf owners x) k e in g .closed x q h (λ y. n (rw getD-set-other at y)) f);
   }
     where
       -- who has p's place is p
@@ -129,8 +129,8 @@ module _ (owners : List ℕ) (ways : List Bool) (c p k a : ℕ) (o : List Bool) 
 module _ {owners : List ℕ} {ways : List Bool} {c : ℕ} where
   -- nobody was open: then no chain leads to c
   pub no-way : {o r : List Bool} → ((p : ℕ) → Open owners o p → ⊥) → Grown owners ways c o r → (p : ℕ) → Open owners r p → Chain (Leads owners ways) p c → ⊥
-  no-way n g p h (one l) = g .shut p c h (n p) l .1 refl
-  no-way n g p h (more {b = q} l d) = no-way n g q (g .shut p q h (n p) l .0) d
+  no-way n g p h (one l) = g .closed p c h (n p) l .1 refl
+  no-way n g p h (more {b = q} l d) = no-way n g q (g .closed p q h (n p) l .0) d
 
 -- ---- a loop that opens what each of the first n leads to, whatever that means
 

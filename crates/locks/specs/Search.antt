@@ -54,7 +54,7 @@ Open owners opened p = getD opened (placeOf owners p) false ≡ true
 pub record Grown (owners : List ℕ) (ways : List Bool) (c : ℕ) (before after : List Bool) : Type 0 where
   pub size : length after ≡ 33
   pub keeps : (k : ℕ) → getD before k false ≡ true → getD after k false ≡ true
-  pub shut : (p q : ℕ) → Open owners after p → (Open owners before p → ⊥) → Leads owners ways p q → Open owners after q × (q ≡ c → ⊥)
+  pub closed : (p q : ℕ) → Open owners after p → (Open owners before p → ⊥) → Leads owners ways p q → Open owners after q × (q ≡ c → ⊥)
 
 -- the search from p: it found a chain to c, or there is none by way of those that it opened, and all that it had to open are
 pub record Searched (owners : List ℕ) (ways : List Bool) (c p : ℕ) (Had : ℕ → Type 0) (before : List Bool) (seen : Seen) : Type 0 where
