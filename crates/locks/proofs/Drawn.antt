@@ -5,10 +5,11 @@ use native.Mathlib.Omega.{arith}
 use mathlib.Core.Path.{_≡_, refl, sym, _∙_}
 use mathlib.Core.Bool.{Bool, false, false≢true}
 use mathlib.Core.List.{List, [], _∷_, _++_}
-use lib.Dec.{eqb, ltb}
+use lib.Dec.{ltb}
 use lib.ListN.{length, getD, set, take, replicate, length-append, length-take, List·getD-append, length-set}
 use lib.Seq.{getD-take, getD-at, getD-set-same, getD-set-other}
-use borrow.Author.Tests.{eqb-true, eqb-false, ltb-true, ltb-false}
+use borrow.Author.Count.{below-none, below-more}
+use borrow.Author.Tests.{ltb-true, ltb-false}
 use Rattle.locks.specs.Rows.{noRow, rowsOf, conflict}
 use Rattle.locks.specs.Chains.{Link}
 use Rattle.locks.specs.Search.{inWay, Owners, Ways, Leads}
@@ -57,16 +58,14 @@ pub record Listed (rows : List Row) (i : ℕ) (owners : List ℕ) : Type 0 where
   pub done : (j : ℕ) → j < i → getD owners j 0 ≡ getD rows j noRow .owner
 
 pub list-start : (rows : List Row) → Listed rows 0 (replicate 33 0)
-list-start rows = record { size = refl; done = λ j l. absurd (not-suc-le-zero l) }
+list-start rows = record { size = refl; done = below-none _ }
 
 pub list-next : {rows : List Row} {i : ℕ} {owners : List ℕ} → Listed rows i owners → i < 33 → {x : ℕ} → x ≡ getD rows i noRow .owner → Listed rows (i + 1) (set owners i x)
 list-next {rows} {i} {owners} s l {x} h = record {
   size = simp length-set (s .size);
-  done = λ j k. cases (eqb j i) (λ e. here j (eqb-true j i e)) (λ e. let d : j ≡ i → ⊥ = eqb-false j i e in rw getD-set-other (s .done j (omega arith)));
+  done = below-more _ _ (λ j k. let d : j ≡ i → ⊥ = λ e. omega arith in rw getD-set-other (s .done j k))
+      (rw (getD-set-same owners i x 0 (omega (arith, s .size))) h);
 }
-  where
-    here : (j : ℕ) → j ≡ i → getD (set owners i x) j 0 ≡ getD rows j noRow .owner
-    here j e = rw (e, getD-set-same owners i x 0 (omega (arith, s .size))) h
 
 pub listed : {rows : List Row} {i : ℕ} {owners : List ℕ} → Listed rows i owners → length rows ≡ i → Owners rows owners
 listed s e = record { each = λ j l. s .done j (omega arith) }
@@ -76,7 +75,7 @@ listed s e = record { each = λ j l. s .done j (omega arith) }
 -- this is drawn of the rows before w, and of row w against those before a
 pub record Filled (rows : List Row) (w a : ℕ) (ways : List Bool) : Type 0 where
   pub size : length ways ≡ 1089
-  pub done : (v b : ℕ) → v < w → b < v → inWay ways v b ≡ conflict (getD rows v noRow) (getD rows b noRow)
+  pub done : (v : ℕ) → v < w → (b : ℕ) → b < v → inWay ways v b ≡ conflict (getD rows v noRow) (getD rows b noRow)
   pub here : (b : ℕ) → b < a → inWay ways w b ≡ conflict (getD rows w noRow) (getD rows b noRow)
   pub rest : (k : ℕ) → w * 33 + a ≤ k → getD ways k false ≡ false
 
@@ -88,8 +87,8 @@ no-flag (suc n) (suc k) = no-flag n k
 pub fill-start : (rows : List Row) → Filled rows 0 0 (replicate 1089 false)
 fill-start rows = record {
   size = refl;
-  done = λ v b l. absurd (not-suc-le-zero l);
-  here = λ b l. absurd (not-suc-le-zero l);
+  done = below-none _;
+  here = below-none _;
   rest = λ k l. no-flag 1089 k;
 }
 
@@ -100,28 +99,22 @@ module _ {rows : List Row} {w a : ℕ} {ways : List Bool} (s : Filled rows w a w
   pub fill-next : {b : Bool} → a < w → b ≡ conflict (getD rows w noRow) (getD rows a noRow) → Filled rows w (a + 1) (set ways (w * 33 + a) b)
   fill-next {b} l h = record {
     size = simp length-set (s .size);
-    done = λ v x m o. let e : v * 33 + x ≡ w * 33 + a → ⊥ = λ z. omega arith in rw getD-set-other (s .done v x m o);
-    here = λ x m. cases (eqb x a) (λ e. this x (eqb-true x a e))
-        (λ e. let d : x ≡ a → ⊥ = eqb-false x a e in let o : w * 33 + x ≡ w * 33 + a → ⊥ = λ z. d (omega arith) in rw getD-set-other (s .here x (omega arith)));
-    rest = λ k m. let o : k ≡ w * 33 + a → ⊥ = λ z. omega arith in rw getD-set-other (s .rest k (omega arith));
+    done = λ v m x o. let e : v * 33 + x ≡ w * 33 + a → ⊥ = λ z. omega arith in rw getD-set-other (s .done v m x o);
+    here = below-more _ _ (λ x m. let e : w * 33 + x ≡ w * 33 + a → ⊥ = λ z. omega arith in rw getD-set-other (s .here x m))
+        (rw (getD-set-same ways (w * 33 + a) b false (omega (arith, s .size))) h);
+    rest = λ k m. let e : k ≡ w * 33 + a → ⊥ = λ z. omega arith in rw getD-set-other (s .rest k (omega arith));
   }
-    where
-      this : (x : ℕ) → x ≡ a → inWay (set ways (w * 33 + a) b) w x ≡ conflict (getD rows w noRow) (getD rows x noRow)
-      this x e = rw (e, getD-set-same ways (w * 33 + a) b false (omega (arith, s .size))) h
 
   pub fill-row : w ≤ a → a ≤ w → Filled rows (w + 1) 0 ways
   fill-row l m = record {
     size = s .size;
-    done = λ v b h k. cases (eqb v w) (λ e. this v b (eqb-true v w e) k) (λ e. let d : v ≡ w → ⊥ = eqb-false v w e in s .done v b (omega arith) k);
-    here = λ b h. absurd (not-suc-le-zero h);
+    done = below-more _ _ (s .done) (λ b k. s .here b (omega arith));
+    here = below-none _;
     rest = λ k h. s .rest k (omega arith);
   }
-    where
-      this : (v b : ℕ) → v ≡ w → b < v → inWay ways v b ≡ conflict (getD rows v noRow) (getD rows b noRow)
-      this v b e k = rw e (s .here b (omega arith))
 
 pub filled : {rows : List Row} {w : ℕ} {ways : List Bool} → Filled rows w 0 ways → length rows ≡ w → Ways rows ways
-filled {w = w} s e = record { way = λ v b h k. s .done v b (omega arith) k; none = λ v b h. s .rest (v * 33 + b) (omega arith) }
+filled {w = w} s e = record { way = λ v b h k. s .done v (omega arith) b k; none = λ v b h. s .rest (v * 33 + b) (omega arith) }
 
 -- ---- the links
 

@@ -8,6 +8,7 @@ use mathlib.Core.List.{List, [], _∷_}
 use lib.Dec.{eqb}
 use lib.ListN.{length, getD, set}
 use lib.Seq.{getD-set-same, getD-set-other}
+use borrow.Author.Count.{below-none, below-more}
 use borrow.Author.Tests.{eq-eqb, ne-eqb, eqb-true, eqb-false}
 use Rattle.locks.specs.Chains.{Chain, one, more}
 use Rattle.locks.specs.Search.{RowLeads, Leads, placeFrom, placeOf, Open, Grown, Searched}
@@ -140,20 +141,15 @@ pub record Toured (owners : List ℕ) (ways : List Bool) (c : ℕ) (To : ℕ →
 
 module _ {owners : List ℕ} {ways : List Bool} {c : ℕ} {To : ℕ → ℕ → Type 0} where
   pub tour-start : {o : List Bool} → length o ≡ 33 → Toured owners ways c To 0 o o
-  tour-start s = record { grown = grown-refl s; opens = λ v l. absurd (not-suc-le-zero l) }
+  tour-start s = record { grown = grown-refl s; opens = below-none _ }
 
   module _ {n : ℕ} {o u : List Bool} (t : Toured owners ways c To n o u) where
     pub tour-past : {r : List Bool} → ((q : ℕ) → To n q → ⊥) → r ≡ u → Toured owners ways c To (n + 1) o r
-    tour-past {r} none e = record { grown = rw e (t .grown); opens = λ v l q h. rw e (at v l q h) }
-      where
-        at : (v : ℕ) → v < n + 1 → (q : ℕ) → To v q → Open owners u q
-        at v l q h = cases (eqb v n) (λ z. absurd (none q (rw (← eqb-true v n z) h))) (λ z. let d : v ≡ n → ⊥ = eqb-false v n z in t .opens v (omega arith) q h)
+    tour-past none e = rw e (record { grown = t .grown; opens = below-more _ _ (t .opens) (λ q h. absurd (none q h)) })
 
     pub tour-on : {p : ℕ} {Had : ℕ → Type 0} {s : Seen} {r : List Bool} → Searched owners ways c p Had u s → s .closes ≡ false → ((q : ℕ) → To n q → Had q) → r ≡ s .opened
         → Toured owners ways c To (n + 1) o r
-    tour-on {s = s} {r = r} d off had e = record { grown = rw e (grown-then (t .grown) (d .grown off)); opens = λ v l q h. rw e (at v l q h) }
-      where
-        at : (v : ℕ) → v < n + 1 → (q : ℕ) → To v q → Open owners (s .opened) q
-        at v l q h =
-            cases (eqb v n) (λ z. d .had off q (had q (rw (← eqb-true v n z) h)))
-            (λ z. let k : v ≡ n → ⊥ = eqb-false v n z in d .grown off .keeps _ (t .opens v (omega arith) q h))
+    tour-on d off had e = rw e (record {
+      grown = grown-then (t .grown) (d .grown off);
+      opens = below-more _ _ (λ v l q h. d .grown off .keeps _ (t .opens v l q h)) (λ q h. d .had off q (had q h));
+    })

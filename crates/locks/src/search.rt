@@ -1,5 +1,5 @@
-// The search for a chain of waits that leads from a new row back to its caller. It goes by numbers drawn from the rows, which its
-// calls lend each other; no call copies a row.
+// The search for a chain of waits that leads from a new row back to its caller. It goes by numbers that are drawn from the rows
+// once and that its calls lend each other.
 use crate::rows::Row;
 use crate::rows::Table;
 use crate::rows::conflicts;
