@@ -1,4 +1,7 @@
 // Runs situations whose answers were derived by hand from document 01; the file `stdout` beside `src` has those answers.
+mod hand;
+mod reading;
+mod stories;
 mod tables;
 mod text;
 
@@ -10,4 +13,5 @@ fn main() {
     tables::ways_back();
     tables::sharing();
     tables::full();
+    stories::play_all();
 }

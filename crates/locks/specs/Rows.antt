@@ -4,7 +4,7 @@ use mathlib.Core.Bool.{Bool, true, false, not, _&&_}
 use mathlib.Core.List.{List, [], _∷_}
 use lib.Dec.{eqb}
 use lib.ListN.{drop, length, replicate, take}
-use Rattle.locks.specs.Lists.{any, all, keep, sift, padded, member, agree, between, isZero}
+use Rattle.locks.specs.Lists.{any, all, keep, sift, padded, member, agree, between, isZero, zeros}
 use Rattle.locks.specs.declared.rows.Row.{Row}
 use Rattle.locks.specs.declared.rows.Table.{Table}
 use Rattle.locks.specs.declared.rows.Part.{Part}
@@ -79,7 +79,7 @@ goes Waiting r earlier q = waitsOf (r .owner) earlier q
 
 -- "unused places are zero"
 unfoldable pub zeroRow : Row → Bool
-zeroRow r = isZero (r .owner) && not (r .shared) && isZero (r .len) && all isZero (r .bytes)
+zeroRow r = isZero (r .owner) && not (r .shared) && isZero (r .len) && zeros 16 (r .bytes)
 
 -- "lengths of sequences lie in the ranges above", "every row has a live owner and zeros after its length"
 unfoldable pub soundRow : List ℕ → Row → Bool

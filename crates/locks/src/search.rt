@@ -10,7 +10,8 @@ ghost use mathlib.Core.Logic.{_↔_};
 ghost use mathlib.Core.List.{[], _∷_, _++_};
 ghost use Prim.Native.Nat.{_<_};
 ghost use lib.ListN.{getD};
-ghost use Rattle.locks.specs.Rows.{rowsOf};
+ghost use Rattle.locks.specs.Lists.{any};
+ghost use Rattle.locks.specs.Rows.{rowsOf, owns};
 ghost use Rattle.locks.specs.Chains.{Link, Chain};
 ghost use Rattle.locks.specs.Search.{Owners, Ways, RowLeads, Leads, placeOf, Searched};
 
@@ -173,10 +174,27 @@ fn owner_row<'a>(
     }
 }
 
-// With the new row r behind the table, a chain leads from it back to its owner.
+fn owns_row(t: Table, owner: u16) -> bool
+    ensures { λ b. ⌜ b ≡ any (owns owner) (rowsOf t) ⌝ }
+{
+    let n = least(t.used, 32);
+    let mut i: usize = 0;
+    while i < n {
+        if t.rows[i].owner == owner {
+            return true;
+        }
+        i += 1;
+    }
+    false
+}
+
+// With the new row r behind the table, a chain leads from it back to its owner. Nobody waits for an owner without rows.
 pub fn leads_back(t: Table, r: Row) -> bool
     ensures { λ b. ⌜ (b ≡ true) ↔ Chain (Link (rowsOf t ++ r ∷ [])) (r .owner) (r .owner) ⌝ }
 {
+    if !owns_row(t, r.owner) {
+        return false;
+    }
     let owners = owners_of(t, r);
     let ways = ways_of(t, r);
     let last = least(t.used, 32);

@@ -1,70 +1,93 @@
+// States and their parts: made, looked up, changed.
 use locks::rows::*;
+use processes::*;
+use rules::state::*;
+use soundness::pids_of;
+ghost use mathlib.Core.Path.{_≡_};
+ghost use mathlib.Core.List.{map};
+ghost use lib.ListN.{take};
+ghost use Prim.Native.Nat.{_≤_};
+ghost use Rattle.locks.specs.Rows.{rowsOf};
+ghost use Rattle.rules.specs.State.{view, laid, fresh, processOf, put, granted, rowsLeft};
+ghost use Rattle.model.specs.Laid.{Lays, Tidy, placeOf};
 
-pub struct Ids {
-    pub effective: u16,
-    pub login: u16,
-    pub program: u16,
+pub fn fresh() -> State
+    ensures { λ r. ⌜ r ≡ laid fresh ⌝ }
+{
+    let z = no_process();
+    let mut procs = [z; 16];
+    procs[0] = new_process(1, z.user, z.group, 0, [1, 1, 0, 1, 1, 1, 1]);
+    State {
+        procs: procs,
+        live: 1,
+        table: no_rows(),
+        next: 2,
+    }
 }
 
-// Signal s stands at place s - 1, and in bit s - 1 of the pending set. A reaction is 0 abort, 1 ignore, else the address of a trap.
-pub struct Signals {
-    pub reactions: [u32; 7],
-    pub pending: u8,
-    pub traps: [u32; 7],
+// The place of the first of those PIDs, or their count.
+pub(crate) fn place(ns: [u16; 16], n: usize, pid: u16) -> usize
+    requires { ⌜ n ≤ 16 ⌝ }
+    ensures { λ i. ⌜ i ≡ placeOf pid (take n ns) ⌝ }
+{
+    let mut i: usize = 0;
+    while i < n {
+        if ns[i] == pid {
+            return i;
+        }
+        i += 1;
+    }
+    i
 }
 
-// Sleep: 0 none, 1 pause, 2 lock, 3 timed, with the seconds left. Last wake: 0 never, 1 granted, 2 signal, with the seconds that were left, 3 time.
-pub struct Rest {
-    pub sleep: u8,
-    pub seconds: u32,
-    pub wake: u8,
-    pub left: u32,
+// The process of that PID; an unused place where there is none.
+pub(crate) fn find(s: State, pid: u16) -> Process
+    requires { ⌜ Lays s (view s) ⌝ }
+    ensures { λ p. ⌜ p ≡ processOf (view s) pid ⌝ }
+{
+    let mut i: usize = 0;
+    while i < s.live {
+        if s.procs[i].pid == pid {
+            return s.procs[i];
+        }
+        i += 1;
+    }
+    no_process()
 }
 
-// The priority is 32-bit two's complement, as D3 shows it.
-pub struct Process {
-    pub pid: u16,
-    pub user: Ids,
-    pub group: Ids,
-    pub priority: u32,
-    pub signals: Signals,
-    pub alarm: u32,
-    pub rest: Rest,
+// q in the place of the process of its PID.
+pub(crate) fn replace(s: State, q: Process) -> State
+    requires { ⌜ Lays s (view s) ⌝ }
+    ensures { λ r. ⌜ Lays r (put q (view s)) ⌝ }
+{
+    let mut t = s;
+    let mut i: usize = 0;
+    while i < s.live {
+        if s.procs[i].pid == q.pid {
+            t.procs[i] = q;
+            return t;
+        }
+        i += 1;
+    }
+    t
 }
 
-// The live processes in ascending PID are the first `live` places, and zeros stand in the others.
-pub struct State {
-    pub procs: [Process; 16],
-    pub live: usize,
-    pub table: Table,
-    pub next: u32,
-}
-
-// Kind: 1 call, 2 tick, 3 take, 4 wake report. `named` says whether the event names a sequence.
-pub struct Event {
-    pub kind: u8,
-    pub call: u8,
-    pub caller: u16,
-    pub d0: u16,
-    pub d1: u16,
-    pub d2: u16,
-    pub d3: u32,
-    pub a0: u32,
-    pub named: bool,
-    pub seq: [u8; 16],
-}
-
-// Kind: 0 done, 1 now asleep, 2 caller ended, 3 refused, with the refusal's number.
-pub struct Answer {
-    pub kind: u8,
-    pub number: u8,
-    pub woken: u16,
-    pub ended: u16,
-    pub d3: u32,
-    pub a0: u32,
-}
-
-pub struct Stepped {
-    pub answer: Answer,
-    pub state: State,
+// The rows of t are left: a lock sleeper none of whose rows waits wakes.
+pub(crate) fn rows_left(s: State, t: Table) -> State
+    requires { ⌜ Lays s (view s) × Tidy t ⌝ }
+    ensures { λ r. ⌜ Lays r (rowsLeft (rowsOf t) (view s)) ⌝ }
+{
+    let mut u = s;
+    u.table = t;
+    let mut i: usize = 0;
+    while i < s.live {
+        if s.procs[i].rest.sleep == 2 {
+            let p = s.procs[i];
+            if waiting_of(t, p.pid) == 0 {
+                u.procs[i] = woken_by(p, 1, 0);
+            }
+        }
+        i += 1;
+    }
+    u
 }

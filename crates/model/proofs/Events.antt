@@ -1,0 +1,220 @@
+-- One event: who calls, which checks it passes, and what is answered. Assumes nothing.
+use Prim.Native.Nat.{ℕ, _+_, _≤_, _<_, zero-le, suc-le-suc}
+use native.Mathlib.Omega.{arith}
+use mathlib.Core.Path.{_≡_, refl, sym, ap, _∙_}
+use mathlib.Core.Bool.{Bool, true, false, cond, not, _&&_, _||_, and-eq-true-iff}
+use mathlib.Core.List.{List, [], _∷_, _++_}
+use lib.ListN.{length, getD, take, set, length-map, length-append}
+use lib.Dec.{eqb, ltb}
+use borrow.Author.Tests.{lt-ltb, le-ltb, le-leb, eq-eqb, ne-eqb, ltb-false, not-true, not-false}
+use Rattle.locks.specs.Lists.{between, padded}
+use Rattle.locks.proofs.Tests.{cases, or-left, or-right}
+use Rattle.locks.proofs.Loops.{padded-more}
+use Rattle.rules.specs.State.{noProcess, view, laid, pids, lives, processOf, sleeps, privileged}
+use Rattle.rules.specs.Outcome.{done, answered}
+use Rattle.rules.specs.Signals.{arrives}
+use Rattle.rules.specs.Clock.{ticked}
+use Rattle.rules.specs.Calls.{indirect, classOf, ofClass, called, child, born, doFShell, outlived, sendKill}
+use Rattle.rules.specs.Sound.{soundMachine, sound}
+use Rattle.rules.specs.Step.{ofCaller, outcome, settled, stepOf}
+use Rattle.rules.specs.declared.state.Process.{Process}
+use Rattle.rules.specs.declared.state.State.{State}
+use Rattle.rules.specs.declared.state.Event.{Event}
+use Rattle.rules.specs.declared.state.Stepped.{Stepped}
+use Rattle.rules.specs.declared.calls.Class.{Class}
+use Rattle.rules.proofs.Frame.{fit-next, live-pid}
+use Rattle.rules.proofs.States.{sound-stays}
+use Rattle.soundness.proofs.Laws.{take-pids}
+use Rattle.model.specs.Laid.{Lays, Caller, placeOf, refusedBy, answeredAs}
+use Rattle.model.proofs.Places.{place-member, first-found}
+use Rattle.model.proofs.Laying.{lays-live, lays-fits, lays-long, lays-table, lays-view}
+use Rattle.model.proofs.Masks.{born-masks, settled-quiet}
+use Rattle.model.proofs.Kept.{caller-ok}
+
+-- ---- a sound state
+
+pub sound-machine : (s : State) → sound s ≡ true → soundMachine (view s) ≡ true
+unfolding sound
+sound-machine s h = (simp and-eq-true-iff at h) .1
+
+-- the step of a sound state
+pub advanced : (s : State) (e : Event) {r : Stepped} → sound s ≡ true → r ≡ settled s (outcome e (view s)) → (r ≡ stepOf s e) × (sound (r .state) ≡ true)
+unfolding stepOf settled
+advanced s e {r} h k =
+    let q : r ≡ stepOf s e = k ∙ rw h refl in
+    (q, rw q (sound-stays .next s e h))
+
+-- ---- the process of a PID, by its place among those of the state
+
+place-le : (k : ℕ) (ns : List ℕ) → placeOf k ns ≤ length ns
+unfolding placeOf
+place-le k [] = zero-le
+place-le k (n ∷ ns) = cases (eqb n k) (λ e. rw e zero-le) (λ e. rw e (suc-le-suc (place-le k ns)))
+
+module _ {s : State} (l : Lays s (view s)) {ns : List ℕ} (q : ns ≡ pids (s .procs)) (n : ℕ) {i : ℕ} (e : i ≡ placeOf n (take (s .live) ns)) where
+  placed : i ≡ placeOf n (pids (view s .procs))
+  unfolding view
+  placed = e ∙ rw (q, take-pids (s .live) (s .procs))
+
+  live-count : length (pids (view s .procs)) ≡ s .live
+  live-count = length-map (view s .procs) _ ∙ sym (lays-live l)
+
+  pub place-fits : i ≤ s .live
+  place-fits = let a = place-le n (pids (view s .procs)) in let b = live-count in let d = placed in omega arith
+
+  pub place-lives : ltb i (s .live) ≡ lives (view s) n
+  unfolding lives
+  place-lives =
+      ap (λ (j : ℕ). ltb j (s .live)) placed ∙ ap (λ (k : ℕ). ltb (placeOf n (pids (view s .procs))) k) (sym live-count)
+      ∙ place-member n (pids (view s .procs))
+
+  pub lives-here : i < s .live → lives (view s) n ≡ true
+  lives-here h = sym place-lives ∙ lt-ltb i (s .live) h
+
+  pub lives-not : i ≡ s .live → lives (view s) n ≡ false
+  lives-not h = sym place-lives ∙ le-ltb i (s .live) (omega arith)
+
+  pub process-here : (d : Process) → i < s .live → getD (s .procs) i d ≡ processOf (view s) n
+  unfolding processOf view
+  process-here d h =
+      let b : s .live ≤ length (s .procs) = omega (arith, lays-fits l, lays-long l) in
+      first-found n (s .procs) (s .live) i d b placed h
+
+  pub caller-here : soundMachine (view s) ≡ true → (d : Process) → (i ≡ s .live → ⊥) → getD (s .procs) i d .rest .sleep ≡ 0 → Caller s i (getD (s .procs) i d)
+  caller-here k d h z =
+      let a : i < s .live = let f = place-fits in omega arith in
+      let p : getD (s .procs) i d ≡ processOf (view s) n = process-here d a in
+      let m : getD (s .procs) i d .pid ≡ n = ap (λ (x : Process). x .pid) p ∙ live-pid (view s) n (lives-here a) in
+      record {
+        lays = l;
+        sound = k;
+        place = rw m placed;
+        stands = let b = lays-live l in omega arith;
+        is = p ∙ ap (processOf (view s)) (sym m);
+        awake = ap not (eq-eqb _ 0 z);
+      }
+
+-- ---- the checks of an event, in their order
+
+pub kind-range : (k : ℕ) → 1 ≤ k → ltb 4 k ≡ false → between 1 4 k ≡ true
+kind-range k h m = rw (le-leb 1 k h, le-leb k 4 (ltb-false 4 k m))
+
+module _ (s : State) (e : Event) where
+  pub bad-kind : between 1 4 (e .kind) ≡ false → refusedBy 5 s ≡ settled s (outcome e (view s))
+  unfolding outcome settled
+  bad-kind h = rw h refl
+
+  module _ (k : between 1 4 (e .kind) ≡ true) where
+    pub ticks : eqb (e .kind) 2 ≡ true → settled s (answered done 0 0 (ticked (view s))) ≡ settled s (outcome e (view s))
+    unfolding outcome settled
+    ticks t = rw (k, t) refl
+
+    module _ (t : eqb (e .kind) 2 ≡ false) where
+      pub no-caller : lives (view s) (e .caller) ≡ false → refusedBy 2 s ≡ settled s (outcome e (view s))
+      unfolding outcome settled
+      no-caller h = rw (k, t, h) refl
+
+      pub caller-sleeps : {p : Process} → lives (view s) (e .caller) ≡ true → p ≡ processOf (view s) (e .caller) → sleeps p ≡ true → refusedBy 3 s ≡ settled s (outcome e (view s))
+      unfolding outcome settled
+      caller-sleeps h q a = rw (k, t, h, ← q, a) refl
+
+      pub caller-acts : {p : Process} → lives (view s) (e .caller) ≡ true → p ≡ processOf (view s) (e .caller) → sleeps p ≡ false → settled s (ofCaller p e (view s)) ≡ settled s (outcome e (view s))
+      unfolding outcome settled
+      caller-acts h q a = rw (k, t, h, ← q, a) refl
+
+-- ---- the number of a call
+
+-- the event asks for call n
+pub record Asks (e : Event) (n : ℕ) : Type 0 where
+  pub once : (eqb (e .call) indirect && eqb (e .d0) indirect) ≡ false
+  pub is : n ≡ cond (eqb (e .call) indirect) (e .d0) (e .call)
+
+pub asks-indirect : {e : Event} {n : ℕ} → e .call ≡ indirect → (e .d0 ≡ indirect → ⊥) → n ≡ e .d0 → Asks e n
+asks-indirect {e} h k q = record { once = rw (eq-eqb (e .call) indirect h, ne-eqb (e .d0) indirect k); is = rw (eq-eqb (e .call) indirect h) q }
+
+pub asks-plain : {e : Event} {n : ℕ} → (e .call ≡ indirect → ⊥) → n ≡ e .call → Asks e n
+asks-plain {e} h q = record { once = rw (ne-eqb (e .call) indirect h); is = rw (ne-eqb (e .call) indirect h) q }
+
+module _ (s : State) (p : Process) (e : Event) where
+  pub asks-twice : e .call ≡ indirect → e .d0 ≡ indirect → refusedBy 5 s ≡ settled s (called p e (view s))
+  unfolding called settled
+  asks-twice h k = rw (eq-eqb (e .call) indirect h, eq-eqb (e .d0) indirect k)
+
+  pub asks-class : {n : ℕ} {x : Class} → Asks e n → x ≡ classOf n → settled s (ofClass x p e (view s)) ≡ settled s (called p e (view s))
+  unfolding called settled
+  asks-class a q = rw (a .once, q, a .is)
+
+-- ---- a child
+
+pub next-fits : {s : State} {i : ℕ} {p : Process} → Caller s i p → s .next ≤ 65536
+unfolding view
+next-fits c = fit-next _ _ (caller-ok c .frame .fit) .1
+
+-- the child behind the live
+abbrev pub bornIn : Process → State → State
+bornIn c s = record { procs = set (s .procs) (s .live) c; live = s .live + 1; table = s .table; next = s .next + 1 }
+
+lays-born : {s : State} (c : Process) → Lays s (view s) → s .live < 16 → Lays (bornIn c s) (born c (view s))
+unfolding born laid view
+lays-born {s} c l h =
+    let n : length (view s .procs ++ c ∷ []) ≡ s .live + 1 = length-append (view s .procs) (c ∷ []) ∙ ap (λ (k : ℕ). k + 1) (sym (lays-live l)) in
+    let ps : set (s .procs) (s .live) c ≡ padded 16 noProcess (view s .procs ++ c ∷ []) =
+    ap (λ (t : State). set (t .procs) (s .live) c) (l .is) ∙ padded-more 16 (s .live) noProcess (view s .procs) c (sym (lays-live l)) h in
+    record {
+      is = λ j. record { procs = ps j; live = sym n j; table = lays-table l j; next = s .next + 1 };
+      live = rw n (omega arith);
+      used = l .used;
+    }
+
+module _ {s : State} {i : ℕ} {p : Process} (c : Caller s i p) (e : Event) where
+  pub born-no : (ltb 255 (e .d1) || ltb 255 (e .d2)) ≡ true → refusedBy 5 s ≡ settled s (doFShell p e (view s))
+  unfolding doFShell settled
+  born-no h = rw h
+
+  module _ (h : (ltb 255 (e .d1) || ltb 255 (e .d2)) ≡ false) where
+    pub born-full : (eqb (s .live) 16 || eqb (s .next) 65536) ≡ true → refusedBy 9 s ≡ settled s (doFShell p e (view s))
+    unfolding doFShell settled view
+    born-full f =
+        let g : (eqb (length (view s .procs)) 16 || eqb (s .next) 65536) ≡ true = rw (← lays-live (c .lays)) f in
+        rw (h, g)
+
+    pub born-last : (s .live ≡ 16 → ⊥) → (s .next ≡ 65536 → ⊥) → answeredAs 0 (s .next) (bornIn (child p e (s .next)) s) ≡ settled s (doFShell p e (view s))
+    unfolding doFShell settled view
+    born-last a b =
+        let l = lays-live (c .lays) in
+        let k = lays-fits (c .lays) in
+        rw (h, ne-eqb (length (view s .procs)) 16 (λ (q : length (view s .procs) ≡ 16). a (l ∙ q)), ne-eqb (s .next) 65536 b)
+        (settled-quiet s done (s .next) 0 (lays-born (child p e (s .next)) (c .lays) (omega arith)) (born-masks (child p e (s .next)) (view s) (caller-ok c)))
+
+-- ---- kill
+
+pub kill-range : (a b : ℕ) → 1 ≤ a → ltb 7 a ≡ false → ltb b 2 ≡ false → ltb 65535 b ≡ false → (not (between 1 7 a) || not (between 2 65535 b)) ≡ false
+kill-range a b h k m n = rw (le-leb 1 a h, le-leb a 7 (ltb-false 7 a k), le-leb 2 b (ltb-false b 2 m), le-leb b 65535 (ltb-false 65535 b n))
+
+module _ (s : State) (p : Process) (e : Event) where
+  -- a privileged sender, or one of the same user
+  pub may-any : {x : Bool} → x ≡ privileged p → not x ≡ false → (privileged p || eqb (p .user .effective) (processOf (view s) (e .d3) .user .effective)) ≡ true
+  may-any {x} u g = or-left (privileged p) _ (sym u ∙ not-false x g)
+
+  pub may-own : {q : Process} → q ≡ processOf (view s) (e .d3) → not (eqb (p .user .effective) (q .user .effective)) ≡ false → (privileged p || eqb (p .user .effective) (processOf (view s) (e .d3) .user .effective)) ≡ true
+  may-own {q} v k = or-right (privileged p) _ (rw (← v) (not-false (eqb (p .user .effective) (q .user .effective)) k))
+
+  pub kill-no : (not (between 1 7 (e .d2)) || not (between 2 65535 (e .d3))) ≡ true → refusedBy 5 s ≡ settled s (sendKill p e (view s))
+  unfolding sendKill settled
+  kill-no h = rw h
+
+  module _ (h : (not (between 1 7 (e .d2)) || not (between 2 65535 (e .d3))) ≡ false) where
+    pub kill-none : lives (view s) (e .d3) ≡ false → refusedBy 8 s ≡ settled s (sendKill p e (view s))
+    unfolding sendKill settled
+    kill-none a = rw (h, a)
+
+    module _ (a : lives (view s) (e .d3) ≡ true) where
+      pub kill-foreign : {x : Bool} {q : Process} → x ≡ privileged p → q ≡ processOf (view s) (e .d3) → not x ≡ true → not (eqb (p .user .effective) (q .user .effective)) ≡ true
+          → refusedBy 7 s ≡ settled s (sendKill p e (view s))
+      unfolding sendKill settled
+      kill-foreign {x} {q} u v g k = rw (h, a, ← u, not-true x g, ← v, not-true (eqb (p .user .effective) (q .user .effective)) k)
+
+      pub kill-sent : {t : State} → (privileged p || eqb (p .user .effective) (processOf (view s) (e .d3) .user .effective)) ≡ true → Lays t (arrives (e .d2) (e .d3) (view s))
+          → settled s (outlived (p .pid) (view t)) ≡ settled s (sendKill p e (view s))
+      unfolding sendKill settled
+      kill-sent b l = rw (h, a, b, lays-view l)

@@ -1,0 +1,87 @@
+-- A call that touches its caller alone: the caller as it is after, in its place. Assumes nothing.
+use Prim.Native.Nat.{ℕ, _-_, _<_}
+use mathlib.Core.Path.{_≡_, refl, ap, _∙_}
+use mathlib.Core.Bool.{true, false, and-eq-true-iff}
+use lib.ListN.{length, replicate, length-map}
+use lib.Seq.{set-append-left}
+use lib.Dec.{eqb}
+use Rattle.locks.specs.Lists.{padded}
+use Rattle.rules.specs.State.{Machine, view, laid, noProcess, pids, put}
+use Rattle.rules.specs.Outcome.{Kind, kindOf, done, nowAsleep, callerEnded, Outcome, refused, answered, when, either, own}
+use Rattle.rules.specs.Signals.{takes, taken}
+use Rattle.rules.specs.Calls.{getId, setId, setPrior, setSignal, doSleep, ownCall}
+use Rattle.rules.specs.Sound.{soundMachine}
+use Rattle.rules.specs.Step.{reported, settled}
+use Rattle.rules.specs.declared.state.Process.{Process}
+use Rattle.rules.specs.declared.state.State.{State}
+use Rattle.rules.specs.declared.state.Event.{Event}
+use Rattle.rules.specs.declared.calls.OwnCall.{OwnCall}
+use Rattle.rules.specs.declared.calls.OwnCall.the-variants.{GetUser, SetUser, GetGroup, SetGroup, GetPrior, SetPrior, GetProc, Signal, Sleep, Alarm, Pause}
+use Rattle.rules.proofs.Walk.{Leaves}
+use Rattle.rules.proofs.Frame.{Ok}
+use Rattle.processes.specs.Told.{told}
+use Rattle.model.specs.Laid.{Lays, Caller, placeOf, stored, kept}
+use Rattle.model.proofs.Places.{place-put, put-length}
+use Rattle.model.proofs.Masks.{put-masks, settled-quiet}
+
+-- ---- its PID stays
+
+pub own-pids : (c : OwnCall) (p : Process) (e : Event) → Leaves (λ q. q .pid ≡ p .pid) (ownCall c p e)
+unfolding ownCall getId setId setPrior setSignal doSleep
+own-pids GetUser p e = λ _. refl
+own-pids SetUser p e = λ _ _. refl
+own-pids GetGroup p e = λ _. refl
+own-pids SetGroup p e = λ _ _. refl
+own-pids GetPrior p e = refl
+own-pids SetPrior p e = λ _ _. refl
+own-pids GetProc p e = refl
+own-pids Signal p e = λ _. refl
+own-pids Sleep p e = (λ _. refl, λ _. refl)
+own-pids Alarm p e = refl
+own-pids Pause p e = refl
+
+pub taken-pids : (p : Process) → Leaves (λ q. q .pid ≡ p .pid) (taken p)
+unfolding taken takes
+taken-pids p = (λ _. refl, λ _. refl)
+
+pub reported-pids : (p : Process) → Leaves (λ q. q .pid ≡ p .pid) (reported p)
+unfolding reported
+reported-pids p = refl
+
+-- ---- in its place
+
+put-laid : (q : Process) (m : Machine) (i : ℕ) → i ≡ placeOf (q .pid) (pids (m .procs)) → i < length (m .procs) → stored i q (laid m) ≡ laid (put q m)
+unfolding laid put padded
+put-laid q m i e l =
+    rw (set-append-left (m .procs) (replicate (16 - length (m .procs)) noProcess) i q l, e, place-put q (m .procs), put-length q (m .procs))
+
+lays-stored : {s : State} {i : ℕ} (q : Process) → Lays s (view s) → i ≡ placeOf (q .pid) (pids (view s .procs)) → i < length (view s .procs) → Lays (stored i q s) (put q (view s))
+unfolding put
+lays-stored {s} {i} q l e h =
+    record { is = ap (stored i q) (l .is) ∙ put-laid q (view s) i e h; live = rw (put-length q (view s .procs)) (l .live); used = l .used }
+
+pub caller-ok : {s : State} {i : ℕ} {p : Process} → Caller s i p → Ok (view s)
+unfolding soundMachine
+caller-ok c =
+    let k = simp and-eq-true-iff at (c .sound) in
+    record {
+      frame = record { fit = k .0 .0 .0; rows-sound = k .0 .0 .1; rows-apart = k .0 .1; few = rw length-map (c .lays .live); rows-few = c .lays .used };
+      procs = k .1;
+    }
+
+no-refusal : (k : Kind) → eqb (kindOf k) 3 ≡ false
+no-refusal done = refl
+no-refusal nowAsleep = refl
+no-refusal callerEnded = refl
+
+pub keeps : {s : State} {i : ℕ} {p : Process} → Caller s i p → (o : Outcome Process) → Leaves (λ q. q .pid ≡ p .pid) o → kept s i (told p o) ≡ settled s (own (view s) o)
+unfolding settled put
+keeps c (refused r) g = refl
+keeps {s} {i} {p} c (answered k d3 a0 q) g =
+    rw (no-refusal k)
+    (settled-quiet s k d3 a0 (lays-stored q (c .lays) (rw g (c .place)) (c .stands))
+    (put-masks (view s) (put q (view s)) (caller-ok c) q refl (rw (g, ← c .is) (c .awake))))
+keeps c (when true r o) g = refl
+keeps c (when false r o) g = keeps c o (g refl)
+keeps c (either true x y) g = keeps c x (g .0 refl)
+keeps c (either false x y) g = keeps c y (g .1 refl)

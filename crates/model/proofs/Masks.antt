@@ -1,0 +1,96 @@
+-- Nobody wakes or ends, and the answer then. Assumes nothing.
+use Prim.Native.Nat.{ℕ, _+_}
+use native.Mathlib.Omega.{arith}
+use mathlib.Core.Path.{_≡_, refl, sym, _∙_}
+use mathlib.Core.Bool.{Bool, true, false, not, _&&_, true≢false, false≢true}
+use mathlib.Core.List.{List, [], _∷_, _++_, map-append}
+use lib.Dec.{eqb, leb}
+use borrow.Author.Tests.{eqb-true, eqb-false, eq-eqb, ne-eqb}
+use Rattle.locks.specs.Lists.{mask, member}
+use Rattle.locks.proofs.Tests.{cases, and-split, or-left, or-right}
+use Rattle.locks.proofs.Lists.{any-append}
+use Rattle.rules.specs.State.{Machine, view, has, pids, sleeps, lives, firstOf, processOf, inPlace}
+use Rattle.rules.specs.Outcome.{Kind, kindOf, answered}
+use Rattle.rules.specs.Calls.{born}
+use Rattle.rules.specs.Sound.{ascend}
+use Rattle.rules.specs.Step.{wokenMask, endedMask, settled}
+use Rattle.rules.specs.declared.state.Process.{Process}
+use Rattle.rules.specs.declared.state.State.{State}
+use Rattle.rules.proofs.Frame.{Ok, fit-ascend, below-first, pids-put, first-pid}
+use Rattle.rules.proofs.States.{view-laid}
+use Rattle.processes.specs.Told.{answerOf}
+use Rattle.model.specs.Laid.{Lays, settledAs}
+
+-- nobody does
+abbrev pub Quiet : Machine → Machine → Type 0
+Quiet m after = (wokenMask m after ≡ 0) × (endedMask m after ≡ 0)
+
+-- where PIDs ascend, each process is the one of its PID
+mask-none : (f : Process → Bool) (low : ℕ) (ps : List Process) (next : ℕ) → ascend low (pids ps) next ≡ true → ((n : ℕ) → member n (pids ps) ≡ true → f (firstOf n ps) ≡ false) → mask f ps ≡ 0
+unfolding ascend firstOf
+mask-none f low [] next up h = refl
+mask-none f low (p ∷ ps) next up h =
+    let u = and-split (leb low (p .pid)) (ascend (p .pid + 1) (pids ps) next) up in
+    let once = below-first (p .pid) (p .pid + 1) (pids ps) next (omega arith) (u .1) in
+    let same = eq-eqb (p .pid) (p .pid) refl in
+    let head : f p ≡ false = rw same at (h (p .pid) (or-left (has (p .pid) p) (member (p .pid) (pids ps)) same)) in
+    rw (head, mask-none f (p .pid + 1) ps next (u .1) (λ n l. rw (ne-eqb (p .pid) n (λ (e : p .pid ≡ n). true≢false (sym l ∙ (rw e at once)))) at (h n (or-right (has n p) (member n (pids ps)) l))))
+
+calm : (a b c : Bool) → (a ≡ true → c ≡ true) → (a && b && not c) ≡ false
+calm true true c h = rw (h refl)
+calm true false c h = refl
+calm false b c h = refl
+
+pub quiet-masks : (m after : Machine) → Ok m → ((n : ℕ) → lives m n ≡ true → lives after n ≡ true)
+    → ((n : ℕ) → lives m n ≡ true → sleeps (processOf m n) ≡ true → sleeps (processOf after n) ≡ true) → Quiet m after
+unfolding wokenMask endedMask lives processOf
+quiet-masks m after o alive asleep = (
+  mask-none _ 1 (m .procs) (m .next) up (λ n l. rw (first-pid n (m .procs) l) (calm (sleeps (firstOf n (m .procs))) _ (sleeps (firstOf n (after .procs))) (asleep n l))),
+  mask-none _ 1 (m .procs) (m .next) up (λ n l. rw (first-pid n (m .procs) l, alive n l)),
+)
+  where
+    up : ascend 1 (pids (m .procs)) (m .next) ≡ true
+    up = fit-ascend (pids (m .procs)) (m .next) (o .frame .fit)
+
+-- ---- the same processes; one of them in its place; one more
+
+first-put : (q : Process) (n : ℕ) (ps : List Process) → eqb (q .pid) n ≡ false → firstOf n (inPlace q ps) ≡ firstOf n ps
+unfolding firstOf inPlace
+first-put q n [] d = refl
+first-put q n (p ∷ ps) d =
+    cases (has (q .pid) p) (λ e. let f : p .pid ≡ q .pid = eqb-true (p .pid) (q .pid) e in rw (e, d, ne-eqb (p .pid) n (λ (g : p .pid ≡ n). eqb-false (q .pid) n d (sym f ∙ g))))
+    (λ e. rw (e, first-put q n ps d))
+
+first-end : (c : Process) (n : ℕ) (ps : List Process) → member n (pids ps) ≡ true → firstOf n (ps ++ c ∷ []) ≡ firstOf n ps
+unfolding firstOf
+first-end c n [] h = absurd (false≢true h)
+first-end c n (p ∷ ps) h = cases (has n p) (λ e. rw e) (λ e. rw e (first-end c n ps (rw e at h)))
+
+module _ (m after : Machine) (o : Ok m) where
+  pub same-masks : after .procs ≡ m .procs → Quiet m after
+  unfolding lives processOf
+  same-masks e = quiet-masks m after o (λ n l. rw e l) (λ n l h. rw e h)
+
+  pub put-masks : (q : Process) → after .procs ≡ inPlace q (m .procs) → sleeps (processOf m (q .pid)) ≡ false → Quiet m after
+  unfolding lives processOf
+  put-masks q e a =
+      quiet-masks m after o (λ n l. rw (e, pids-put q (m .procs)) l)
+      (λ n l h.
+      cases (eqb (q .pid) n) (λ f. absurd (true≢false (sym h ∙ (rw (eqb-true (q .pid) n f) at a))))
+      (λ f. rw (e, first-put q n (m .procs) f) h))
+
+pub born-masks : (c : Process) (m : Machine) → Ok m → Quiet m (born c m)
+unfolding lives processOf born
+born-masks c m o =
+    quiet-masks m (born c m) o (λ n l. rw (map-append, any-append) (or-left (member n (pids (m .procs))) _ l))
+    (λ n l h. rw (first-end c n (m .procs) l) h)
+
+-- ---- the answer
+
+pub settled-quiet : (s : State) {t : State} {m : Machine} (k : Kind) (d3 a0 : ℕ) → Lays t m → Quiet (view s) m → record { answer = answerOf (kindOf k) 0 d3 a0; state = t } ≡ settled s (answered k d3 a0 m)
+unfolding settled
+settled-quiet s k d3 a0 l w = rw (w .0, w .1, l .is)
+
+pub settled-as : (s : State) {t : State} {m : Machine} (k : Kind) → Lays t m → settledAs s (kindOf k) t ≡ settled s (answered k 0 0 m)
+unfolding settled
+settled-as s k l = rw (l .is, view-laid)

@@ -1,0 +1,84 @@
+// Answers: a refusal, an answer without masks, and one with the masks by comparison of the states before and after.
+use crate::state::*;
+use rules::state::*;
+use soundness::pids_of;
+ghost use mathlib.Core.Path.{_≡_};
+ghost use mathlib.Core.Bool.{cond};
+ghost use Prim.Native.Nat.{_+_, _*_, _<_};
+ghost use Rattle.rules.specs.State.{view};
+ghost use Rattle.model.specs.Laid.{Lays, refusedBy, answeredAs, settledAs};
+
+fn shifted(m: u16, b: bool) -> u16
+    requires { ⌜ m < 32768 ⌝ }
+    ensures { λ r. ⌜ r ≡ cond b 1 0 + 2 * m ⌝ }
+{
+    if b { m * 2 + 1 } else { m * 2 }
+}
+
+pub(crate) fn refuse(s: State, number: u8) -> Stepped
+    ensures { λ r. ⌜ r ≡ refusedBy number s ⌝ }
+{
+    let answer = Answer {
+        kind: 3,
+        number: number,
+        woken: 0,
+        ended: 0,
+        d3: 0,
+        a0: 0,
+    };
+    Stepped {
+        answer: answer,
+        state: s,
+    }
+}
+
+// Nobody wakes or ends.
+pub(crate) fn answer(t: State, kind: u8, d3: u32) -> Stepped
+    ensures { λ r. ⌜ r ≡ answeredAs kind d3 t ⌝ }
+{
+    let answer = Answer {
+        kind: kind,
+        number: 0,
+        woken: 0,
+        ended: 0,
+        d3: d3,
+        a0: 0,
+    };
+    Stepped {
+        answer: answer,
+        state: t,
+    }
+}
+
+// Mask bit i is the process at place i before the event.
+pub(crate) fn settle(s: State, t: State, kind: u8) -> Stepped
+    requires { ⌜ Lays s (view s) × Lays t (view t) ⌝ }
+    ensures { λ r. ⌜ r ≡ settledAs s kind t ⌝ }
+{
+    let ns = pids_of(t);
+    let mut woken: u16 = 0;
+    let mut ended: u16 = 0;
+    let mut i = s.live;
+    while 0 < i {
+        i -= 1;
+        let j = place(ns, t.live, s.procs[i].pid);
+        let mut up = false;
+        if j < t.live {
+            up = s.procs[i].rest.sleep != 0 && t.procs[j].rest.sleep == 0;
+        }
+        woken = shifted(woken, up);
+        ended = shifted(ended, j == t.live);
+    }
+    let answer = Answer {
+        kind: kind,
+        number: 0,
+        woken: woken,
+        ended: ended,
+        d3: 0,
+        a0: 0,
+    };
+    Stepped {
+        answer: answer,
+        state: t,
+    }
+}

@@ -1,0 +1,4 @@
+pub mod Children
+pub mod Taking
+pub mod Arguments
+pub mod Classes

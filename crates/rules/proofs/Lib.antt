@@ -1,0 +1,11 @@
+pub mod Cases
+pub mod Walk
+pub mod Sane
+pub mod Traps
+pub mod Frame
+pub mod Rows
+pub mod Processes
+pub mod Arrivals
+pub mod Stays
+pub mod Rings
+pub mod States

@@ -1,0 +1,9 @@
+pub mod State
+pub mod Outcome
+pub mod Signals
+pub mod Clock
+pub mod Calls
+pub mod Sound
+pub mod Step
+pub mod Promises
+pub mod Cases

@@ -1,0 +1,144 @@
+// One process of a sound state, and one that is unused.
+use locks::rows::*;
+use rules::state::*;
+ghost use mathlib.Core.Path.{_≡_};
+ghost use Rattle.locks.specs.Lists.{zeros};
+ghost use Rattle.locks.specs.Rows.{rowsOf};
+ghost use Rattle.rules.specs.Calls.{inPriority};
+ghost use Rattle.rules.specs.Sound.{zeroIds, zeroSignals, zeroRest, zeroProcess, sleepFits, wakeFits, addressed, trapsFit, reactionsFit, lockFits, soundProcess};
+
+fn seven_zeros(a: [u32; 7]) -> bool
+    ensures { λ b. ⌜ b ≡ zeros 7 a ⌝ }
+{
+    let mut i: usize = 0;
+    while i < 7 {
+        if a[i] != 0 {
+            return false;
+        }
+        i += 1;
+    }
+    true
+}
+
+fn zero_ids(i: Ids) -> bool
+    ensures { λ b. ⌜ b ≡ zeroIds i ⌝ }
+{
+    i.effective == 0 && i.login == 0 && i.program == 0
+}
+
+fn zero_signals(g: Signals) -> bool
+    ensures { λ b. ⌜ b ≡ zeroSignals g ⌝ }
+{
+    let reactions = g.reactions;
+    let traps = g.traps;
+    seven_zeros(reactions) && g.pending == 0 && seven_zeros(traps)
+}
+
+fn zero_rest(r: Rest) -> bool
+    ensures { λ b. ⌜ b ≡ zeroRest r ⌝ }
+{
+    r.sleep == 0 && r.seconds == 0 && r.wake == 0 && r.left == 0
+}
+
+pub(crate) fn zero_process(p: Process) -> bool
+    ensures { λ b. ⌜ b ≡ zeroProcess p ⌝ }
+{
+    p.pid == 0
+        && zero_ids(p.user)
+        && zero_ids(p.group)
+        && p.priority == 0
+        && zero_signals(p.signals)
+        && p.alarm == 0
+        && zero_rest(p.rest)
+}
+
+fn sleep_fits(r: Rest) -> bool
+    ensures { λ b. ⌜ b ≡ sleepFits (r .sleep) (r .seconds) ⌝ }
+{
+    if 3 < r.sleep {
+        return false;
+    }
+    if r.sleep == 3 {
+        return 1 <= r.seconds;
+    }
+    r.seconds == 0
+}
+
+fn wake_fits(r: Rest) -> bool
+    ensures { λ b. ⌜ b ≡ wakeFits (r .wake) (r .left) ⌝ }
+{
+    r.wake <= 3 && (r.wake == 2 || r.left == 0)
+}
+
+// Signal i + 1 is pending, or has no address.
+fn is_addressed(pending: u8, traps: [u32; 7]) -> bool
+    ensures { λ b. ⌜ b ≡ addressed pending 0 traps ⌝ }
+{
+    let mut rest = pending;
+    let mut i: usize = 0;
+    while i < 7 {
+        if rest % 2 != 1 {
+            if traps[i] != 0 {
+                return false;
+            }
+        }
+        rest = rest / 2;
+        i += 1;
+    }
+    true
+}
+
+fn traps_fit(g: Signals) -> bool
+    ensures { λ b. ⌜ b ≡ trapsFit (g .pending) (g .traps) ⌝ }
+{
+    if 128 <= g.pending {
+        return false;
+    }
+    if g.pending / 4 % 2 == 1 {
+        return false;
+    }
+    let traps = g.traps;
+    is_addressed(g.pending, traps)
+}
+
+fn reactions_fit(pid: u16, r: [u32; 7]) -> bool
+    ensures { λ b. ⌜ b ≡ reactionsFit pid r ⌝ }
+{
+    if r[2] != 0 {
+        return false;
+    }
+    if pid != 1 {
+        return true;
+    }
+    r[0] == 1 && r[1] == 1 && r[3] == 1 && r[4] == 1 && r[5] == 1 && r[6] == 1
+}
+
+fn lock_fits(t: Table, pid: u16, sleep: u8) -> bool
+    ensures { λ b. ⌜ b ≡ lockFits (rowsOf t) pid sleep ⌝ }
+{
+    let n = waiting_of(t, pid);
+    if sleep == 2 {
+        return n == 1;
+    }
+    n == 0
+}
+
+pub fn in_priority(n: u32) -> bool
+    ensures { λ b. ⌜ b ≡ inPriority n ⌝ }
+{
+    n <= 40 || 4294967256 <= n
+}
+
+pub(crate) fn sound_process(t: Table, p: Process) -> bool
+    ensures { λ b. ⌜ b ≡ soundProcess (rowsOf t) p ⌝ }
+{
+    let g = p.signals;
+    let reactions = g.reactions;
+    sleep_fits(p.rest)
+        && wake_fits(p.rest)
+        && (p.rest.sleep == 0 || g.pending == 0)
+        && traps_fit(g)
+        && in_priority(p.priority)
+        && reactions_fit(p.pid, reactions)
+        && lock_fits(t, p.pid, p.rest.sleep)
+}
