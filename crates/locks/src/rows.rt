@@ -52,7 +52,7 @@ fn same_sequence(a: Row, b: Row) -> bool
     same_bytes(x, y, a.len)
 }
 
-pub(crate) fn conflicts(a: Row, b: Row) -> bool
+pub fn conflicts(a: Row, b: Row) -> bool
     ensures { λ r. ⌜ r ≡ conflict a b ⌝ }
 {
     if a.owner == b.owner {
@@ -66,7 +66,7 @@ pub(crate) fn conflicts(a: Row, b: Row) -> bool
     same_sequence(a, b)
 }
 
-fn twins(r: Row, q: Row) -> bool
+pub fn twins(r: Row, q: Row) -> bool
     ensures { λ b. ⌜ b ≡ twin r q ⌝ }
 {
     if q.owner != r.owner {

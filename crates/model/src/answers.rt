@@ -6,7 +6,8 @@ ghost use mathlib.Core.Path.{_≡_};
 ghost use mathlib.Core.Bool.{cond};
 ghost use Prim.Native.Nat.{_+_, _*_, _<_};
 ghost use Rattle.rules.specs.State.{view};
-ghost use Rattle.model.specs.Laid.{Lays, refusedBy, answeredAs, settledAs};
+ghost use Rattle.processes.specs.Told.{answerOf};
+ghost use Rattle.model.specs.Laid.{Lays, settledAs};
 
 fn shifted(m: u16, b: bool) -> u16
     requires { ⌜ m < 32768 ⌝ }
@@ -15,38 +16,30 @@ fn shifted(m: u16, b: bool) -> u16
     if b { m * 2 + 1 } else { m * 2 }
 }
 
-pub(crate) fn refuse(s: State, number: u8) -> Stepped
-    ensures { λ r. ⌜ r ≡ refusedBy number s ⌝ }
+pub(crate) fn refusal(number: u8) -> Answer
+    ensures { λ r. ⌜ r ≡ answerOf 3 number 0 0 ⌝ }
 {
-    let answer = Answer {
+    Answer {
         kind: 3,
         number: number,
         woken: 0,
         ended: 0,
         d3: 0,
         a0: 0,
-    };
-    Stepped {
-        answer: answer,
-        state: s,
     }
 }
 
 // Nobody wakes or ends.
-pub(crate) fn answer(t: State, kind: u8, d3: u32) -> Stepped
-    ensures { λ r. ⌜ r ≡ answeredAs kind d3 t ⌝ }
+pub(crate) fn plain(kind: u8, d3: u32) -> Answer
+    ensures { λ r. ⌜ r ≡ answerOf kind 0 d3 0 ⌝ }
 {
-    let answer = Answer {
+    Answer {
         kind: kind,
         number: 0,
         woken: 0,
         ended: 0,
         d3: d3,
         a0: 0,
-    };
-    Stepped {
-        answer: answer,
-        state: t,
     }
 }
 

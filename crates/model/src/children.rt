@@ -24,17 +24,26 @@ pub(crate) fn fshell(s: State, i: usize, p: Process, e: Event) -> Stepped
     ensures { λ x. ⌜ x ≡ settled s (doFShell p e (view s)) ⌝ }
 {
     if 255 < e.d1 || 255 < e.d2 {
-        return refuse(s, BADCALL);
+        return Stepped {
+            answer: refusal(BADCALL),
+            state: s,
+        };
     }
     if s.live == 16 || s.next == 65536 {
-        return refuse(s, NOMEMORY);
+        return Stepped {
+            answer: refusal(NOMEMORY),
+            state: s,
+        };
     }
     let n = s.live;
     let mut t = s;
     t.procs[n] = child_of(p, e, s.next as u16);
     t.live = n + 1;
     t.next = s.next + 1;
-    answer(t, 0, s.next)
+    Stepped {
+        answer: plain(0, s.next),
+        state: t,
+    }
 }
 
 pub(crate) fn exit(s: State, p: Process) -> Stepped
@@ -42,7 +51,10 @@ pub(crate) fn exit(s: State, p: Process) -> Stepped
     ensures { λ x. ⌜ x ≡ settled s (doExit p (view s)) ⌝ }
 {
     if p.pid == 1 {
-        return refuse(s, BADCALL);
+        return Stepped {
+            answer: refusal(BADCALL),
+            state: s,
+        };
     }
     settle(s, end_process(s, p.pid), 2)
 }
@@ -63,15 +75,24 @@ pub(crate) fn kill(s: State, p: Process, e: Event) -> Stepped
     ensures { λ x. ⌜ x ≡ settled s (sendKill p e (view s)) ⌝ }
 {
     if e.d2 < 1 || 7 < e.d2 || e.d3 < 2 || 65535 < e.d3 {
-        return refuse(s, BADCALL);
+        return Stepped {
+            answer: refusal(BADCALL),
+            state: s,
+        };
     }
     let pid = e.d3 as u16;
     let j = place(pids_of(s), s.live, pid);
     if j == s.live {
-        return refuse(s, NOPROC);
+        return Stepped {
+            answer: refusal(NOPROC),
+            state: s,
+        };
     }
     if !is_privileged(p) && p.user.effective != s.procs[j].user.effective {
-        return refuse(s, PRIV);
+        return Stepped {
+            answer: refusal(PRIV),
+            state: s,
+        };
     }
     outlive(s, arrive(s, e.d2 as usize, pid), p.pid)
 }

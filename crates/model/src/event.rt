@@ -11,13 +11,10 @@ use soundness::*;
 ghost use mathlib.Core.Path.{_≡_};
 ghost use mathlib.Core.Bool.{true};
 ghost use Prim.Native.Nat.{_<_};
-ghost use Rattle.rules.specs.State.{view};
-ghost use Rattle.rules.specs.Outcome.{own};
-ghost use Rattle.rules.specs.Calls.{doCall, ofClass, called};
 ghost use Rattle.rules.specs.Sound.{sound};
-ghost use Rattle.rules.specs.Step.{ofCaller, settled, stepOf};
-ghost use Rattle.model.specs.Laid.{Lays, Caller};
+ghost use Rattle.rules.specs.Step.{stepOf};
 ghost use Rattle.model.specs.Laid.{kept};
+ghost use Rattle.model.specs.Course.{OfCall, OfEvent};
 
 const BADSTATE: u8 = 1;
 
@@ -31,71 +28,78 @@ const BADCALL: u8 = 5;
 
 const NOTMODELLED: u8 = 6;
 
+// What an event of a live process comes to.
+enum Course {
+    Refused(u8),
+    Own(OwnCall),
+    Lock,
+    Unlock,
+    Kill,
+    Exit,
+    FShell,
+    Take,
+    Report,
+}
+
+fn of_call(c: Call) -> Course
+    ensures { λ x. ⌜ OfCall c x ⌝ }
+{
+    match c {
+        Call::Own(o) => Course::Own(o),
+        Call::Lock => Course::Lock,
+        Call::Unlock => Course::Unlock,
+        Call::Kill => Course::Kill,
+        Call::Exit => Course::Exit,
+        Call::FShell => Course::FShell,
+    }
+}
+
+// The number is in the event, or for the indirect call in D0.
+fn course_of(pending: u8, e: Event) -> Course
+    ensures { λ x. ⌜ OfEvent pending e x ⌝ }
+{
+    if e.kind == 3 {
+        return Course::Take;
+    }
+    if e.kind != 1 {
+        return Course::Report;
+    }
+    if pending != 0 {
+        return Course::Refused(TRAP);
+    }
+    let mut number = e.call as u16;
+    if number == 0x51 {
+        if e.d0 == 0x51 {
+            return Course::Refused(BADCALL);
+        }
+        number = e.d0;
+    }
+    match class_of(number) {
+        Class::Modelled(c) => of_call(c),
+        Class::NotModelled => Course::Refused(NOTMODELLED),
+        Class::BadCall => Course::Refused(BADCALL),
+    }
+}
+
 // The caller as it is after, in its place.
 fn keep(s: State, i: usize, x: Told) -> Stepped
     requires { ⌜ i < 16 ⌝ }
     ensures { λ r. ⌜ r ≡ kept s i x ⌝ }
 {
     let answer = x.answer;
-    let mut t = s;
-    if answer.kind != 3 {
-        let q = x.process;
-        t.procs[i] = q;
+    if answer.kind == 3 {
+        return Stepped {
+            answer: answer,
+            state: s,
+        };
     }
+    let mut t = s;
+    let q = x.process;
+    t.procs[i] = q;
     Stepped {
         answer: answer,
         state: t,
     }
-}
-
-fn do_call(c: Call, s: State, i: usize, p: Process, e: Event) -> Stepped
-    requires { ⌜ Caller s i p ⌝ }
-    ensures { λ r. ⌜ r ≡ settled s (doCall c p e (view s)) ⌝ }
-{
-    match c {
-        Call::Own(o) => keep(s, i, own_call(o, p, e)),
-        Call::Lock => lock(s, i, p, e),
-        Call::Unlock => unlock(s, p, e),
-        Call::Kill => kill(s, p, e),
-        Call::Exit => exit(s, p),
-        Call::FShell => fshell(s, i, p, e),
-    }
-}
-
-// The number is in the event, or for the indirect call in D0.
-fn call(s: State, i: usize, p: Process, e: Event) -> Stepped
-    requires { ⌜ Caller s i p ⌝ }
-    ensures { λ r. ⌜ r ≡ settled s (called p e (view s)) ⌝ }
-{
-    let mut number = e.call as u16;
-    if number == 0x51 {
-        if e.d0 == 0x51 {
-            return refuse(s, BADCALL);
-        }
-        number = e.d0;
-    }
-    match class_of(number) {
-        Class::Modelled(c) => do_call(c, s, i, p, e),
-        Class::NotModelled => refuse(s, NOTMODELLED),
-        Class::BadCall => refuse(s, BADCALL),
-    }
-}
-
-// Of a live process that is awake.
-fn of_caller(s: State, i: usize, p: Process, e: Event) -> Stepped
-    requires { ⌜ Caller s i p ⌝ }
-    ensures { λ r. ⌜ r ≡ settled s (ofCaller p e (view s)) ⌝ }
-{
-    if e.kind == 1 {
-        if p.signals.pending != 0 {
-            return refuse(s, TRAP);
-        }
-        return call(s, i, p, e);
-    }
-    if e.kind == 3 {
-        return keep(s, i, take(p));
-    }
-    keep(s, i, report(p))
 }
 
 pub fn advance(s: State, e: Event) -> Stepped
@@ -103,27 +107,49 @@ pub fn advance(s: State, e: Event) -> Stepped
     ensures { λ r. ⌜ (r ≡ stepOf s e) × (sound (r .state) ≡ true) ⌝ }
 {
     if e.kind < 1 || 4 < e.kind {
-        return refuse(s, BADCALL);
+        return Stepped {
+            answer: refusal(BADCALL),
+            state: s,
+        };
     }
     if e.kind == 2 {
         return settle(s, pass(s), 0);
     }
-    let i = place(pids_of(s), s.live, e.caller);
-    if i == s.live {
-        return refuse(s, BADCALLER);
+    let mut i: usize = 0;
+    while i < s.live && s.procs[i].pid != e.caller {
+        i += 1;
+    }
+    if i == s.live || s.procs[i].rest.sleep != 0 {
+        return Stepped {
+            answer: refusal(if i == s.live { BADCALLER } else { ASLEEP }),
+            state: s,
+        };
     }
     let p = s.procs[i];
-    if p.rest.sleep != 0 {
-        return refuse(s, ASLEEP);
+    match course_of(p.signals.pending, e) {
+        Course::Refused(n) => Stepped {
+            answer: refusal(n),
+            state: s,
+        },
+        Course::Own(o) => keep(s, i, own_call(o, p, e)),
+        Course::Lock => lock(s, i, p, e),
+        Course::Unlock => unlock(s, p, e),
+        Course::Kill => kill(s, p, e),
+        Course::Exit => exit(s, p),
+        Course::FShell => fshell(s, i, p, e),
+        Course::Take => keep(s, i, take(p)),
+        Course::Report => keep(s, i, report(p)),
     }
-    of_caller(s, i, p, e)
 }
 
 pub fn step(s: State, e: Event) -> Stepped
     ensures { λ r. ⌜ r ≡ stepOf s e ⌝ }
 {
     if !is_sound(s) {
-        return refuse(s, BADSTATE);
+        return Stepped {
+            answer: refusal(BADSTATE),
+            state: s,
+        };
     }
     let r = advance(s, e);
     r

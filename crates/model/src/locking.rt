@@ -8,9 +8,9 @@ use rules::state::*;
 ghost use mathlib.Core.Path.{_≡_};
 ghost use mathlib.Core.Bool.{false};
 ghost use Prim.Native.Nat.{_<_};
-ghost use Rattle.locks.specs.Rows.{rowsOf, waits};
+ghost use Rattle.locks.specs.Rows.{waits};
 ghost use Rattle.rules.specs.State.{view};
-ghost use Rattle.rules.specs.Calls.{badSequence, asksShared, conditional, rowOf, queued, lockRow, doLock, unlockRow, doUnlock};
+ghost use Rattle.rules.specs.Calls.{badSequence, rowOf, queued, lockRow, doLock, doUnlock};
 ghost use Rattle.rules.specs.Step.{settled};
 ghost use Rattle.model.specs.Laid.{Lays, Caller};
 
@@ -62,9 +62,15 @@ fn queue(s: State, i: usize, p: Process, r: Row, waiting: bool) -> Stepped
     t.table = table;
     if waiting {
         t.procs[i] = asleep_for(p, 2, 0);
-        return answer(t, 1, 0);
+        return Stepped {
+            answer: plain(1, 0),
+            state: t,
+        };
     }
-    answer(t, 0, 0)
+    Stepped {
+        answer: plain(0, 0),
+        state: t,
+    }
 }
 
 fn lock_row(s: State, i: usize, p: Process, e: Event, r: Row) -> Stepped
@@ -73,19 +79,31 @@ fn lock_row(s: State, i: usize, p: Process, e: Event, r: Row) -> Stepped
 {
     let t = s.table;
     if has_twin(t, r) {
-        return refuse(s, HELD);
+        return Stepped {
+            answer: refusal(HELD),
+            state: s,
+        };
     }
     let waiting = waits(t, r);
     if waiting {
         if 2 <= e.d2 {
-            return refuse(s, LOCKED);
+            return Stepped {
+                answer: refusal(LOCKED),
+                state: s,
+            };
         }
         if leads_back(t, r) {
-            return refuse(s, DEADLOCK);
+            return Stepped {
+                answer: refusal(DEADLOCK),
+                state: s,
+            };
         }
     }
     if t.used == 32 {
-        return refuse(s, LCKTABLE);
+        return Stepped {
+            answer: refusal(LCKTABLE),
+            state: s,
+        };
     }
     queue(s, i, p, r, waiting)
 }
@@ -95,7 +113,10 @@ pub(crate) fn lock(s: State, i: usize, p: Process, e: Event) -> Stepped
     ensures { λ x. ⌜ x ≡ settled s (doLock p e (view s)) ⌝ }
 {
     if 3 < e.d2 || bad_sequence(e) {
-        return refuse(s, BADCALL);
+        return Stepped {
+            answer: refusal(BADCALL),
+            state: s,
+        };
     }
     let r = row_of(p, e, e.d2 == 0 || e.d2 == 2);
     lock_row(s, i, p, e, r)
@@ -106,11 +127,17 @@ pub(crate) fn unlock(s: State, p: Process, e: Event) -> Stepped
     ensures { λ x. ⌜ x ≡ settled s (doUnlock p e (view s)) ⌝ }
 {
     if bad_sequence(e) {
-        return refuse(s, BADCALL);
+        return Stepped {
+            answer: refusal(BADCALL),
+            state: s,
+        };
     }
     let r = row_of(p, e, false);
     if !has_twin(s.table, r) {
-        return refuse(s, NOTLOCKED);
+        return Stepped {
+            answer: refusal(NOTLOCKED),
+            state: s,
+        };
     }
     let t = without_twin(s.table, r);
     settle(s, rows_left(s, t), 0)

@@ -1,23 +1,24 @@
 // One process of a sound state, and one that is unused.
-use locks::rows::*;
 use rules::state::*;
 ghost use mathlib.Core.Path.{_≡_};
+ghost use mathlib.Core.Bool.{cond};
+ghost use lib.Dec.{eqb};
 ghost use Rattle.locks.specs.Lists.{zeros};
-ghost use Rattle.locks.specs.Rows.{rowsOf};
+ghost use Rattle.rules.specs.State.{forLock};
 ghost use Rattle.rules.specs.Calls.{inPriority};
-ghost use Rattle.rules.specs.Sound.{zeroIds, zeroSignals, zeroRest, zeroProcess, sleepFits, wakeFits, addressed, trapsFit, reactionsFit, lockFits, soundProcess};
+ghost use Rattle.rules.specs.Sound.{zeroIds, zeroSignals, zeroRest, zeroProcess, sleepFits, wakeFits, addressed, trapsFit, reactionsFit};
+ghost use Rattle.soundness.specs.Waiting.{soundWaiting};
 
 fn seven_zeros(a: [u32; 7]) -> bool
     ensures { λ b. ⌜ b ≡ zeros 7 a ⌝ }
 {
+    let mut sum: u64 = 0;
     let mut i: usize = 0;
     while i < 7 {
-        if a[i] != 0 {
-            return false;
-        }
+        sum += a[i] as u64;
         i += 1;
     }
-    true
+    sum == 0
 }
 
 fn zero_ids(i: Ids) -> bool
@@ -113,14 +114,14 @@ fn reactions_fit(pid: u16, r: [u32; 7]) -> bool
     r[0] == 1 && r[1] == 1 && r[3] == 1 && r[4] == 1 && r[5] == 1 && r[6] == 1
 }
 
-fn lock_fits(t: Table, pid: u16, sleep: u8) -> bool
-    ensures { λ b. ⌜ b ≡ lockFits (rowsOf t) pid sleep ⌝ }
+// The rows of the process that wait are `waiting` in number.
+fn lock_fits(waiting: usize, sleep: u8) -> bool
+    ensures { λ b. ⌜ b ≡ eqb waiting (cond (eqb sleep forLock) 1 0) ⌝ }
 {
-    let n = waiting_of(t, pid);
     if sleep == 2 {
-        return n == 1;
+        return waiting == 1;
     }
-    n == 0
+    waiting == 0
 }
 
 pub fn in_priority(n: u32) -> bool
@@ -129,8 +130,8 @@ pub fn in_priority(n: u32) -> bool
     n <= 40 || 4294967256 <= n
 }
 
-pub(crate) fn sound_process(t: Table, p: Process) -> bool
-    ensures { λ b. ⌜ b ≡ soundProcess (rowsOf t) p ⌝ }
+pub(crate) fn sound_process(p: Process, waiting: usize) -> bool
+    ensures { λ b. ⌜ b ≡ soundWaiting waiting p ⌝ }
 {
     let g = p.signals;
     let reactions = g.reactions;
@@ -140,5 +141,5 @@ pub(crate) fn sound_process(t: Table, p: Process) -> bool
         && traps_fit(g)
         && in_priority(p.priority)
         && reactions_fit(p.pid, reactions)
-        && lock_fits(t, p.pid, p.rest.sleep)
+        && lock_fits(waiting, p.rest.sleep)
 }

@@ -3,12 +3,14 @@ use crate::process::*;
 use crate::rows::*;
 use rules::state::*;
 ghost use mathlib.Core.Path.{_≡_};
+ghost use mathlib.Core.Bool.{true};
 ghost use lib.ListN.{take, drop};
 ghost use Prim.Native.Nat.{_≤_};
 ghost use Rattle.locks.specs.Lists.{all};
 ghost use Rattle.locks.specs.Rows.{rowsOf};
 ghost use Rattle.rules.specs.State.{pids};
 ghost use Rattle.rules.specs.Sound.{pidsFit, soundProcess, zeroProcess, sound};
+ghost use Rattle.soundness.specs.Waiting.{Waiting};
 
 pub fn pids_of(s: State) -> [u16; 16]
     ensures { λ r. ⌜ r ≡ pids (s .procs) ⌝ }
@@ -59,15 +61,16 @@ fn unused_processes(s: State) -> bool
     true
 }
 
-fn sound_processes(s: State) -> bool
-    requires { ⌜ s .live ≤ 16 ⌝ }
+fn sound_processes(s: State, w: Waiters) -> bool
+    requires { ⌜ (s .live ≤ 16) × ((w .apart ≡ true) × Waiting (rowsOf (s .table)) w) ⌝ }
     ensures { λ b. ⌜ b ≡ all (soundProcess (rowsOf (s .table))) (take (s .live) (s .procs)) ⌝ }
 {
-    let t = s.table;
+    let owners = w.owners;
     let mut i: usize = 0;
     while i < s.live {
         let p = s.procs[i];
-        if !sound_process(t, p) {
+        let n = waiting_rows(owners, w.count, p.pid);
+        if !sound_process(p, n) {
             return false;
         }
         i += 1;
@@ -78,31 +81,31 @@ fn sound_processes(s: State) -> bool
 pub fn is_sound(s: State) -> bool
     ensures { λ b. ⌜ b ≡ sound s ⌝ }
 {
-    let t = s.table;
     if s.live < 1 {
         return false;
     }
     if 16 < s.live {
         return false;
     }
-    if 32 < t.used {
+    if 32 < s.table.used {
         return false;
     }
     if !unused_processes(s) {
         return false;
     }
-    if !unused_rows(t) {
+    if !unused_rows(s.table) {
         return false;
     }
     let ns = pids_of(s);
     if !pids_fit(ns, s.live, s.next) {
         return false;
     }
-    if !sound_rows(t, ns, s.live) {
+    if !sound_rows(s.table, ns, s.live) {
         return false;
     }
-    if !rows_apart(t) {
+    let w = waiters_of(s.table);
+    if !w.apart {
         return false;
     }
-    sound_processes(s)
+    sound_processes(s, w)
 }

@@ -3,19 +3,19 @@ use borrow.Author.Needs.{needs}
 use Rattle.model.proofs.children.exit.Statement.{statement}
 use Rattle.model.proofs.children.exit.Tie as tie
 use borrow.Author.Tests.{eq-eqb, ne-eqb}
-use mathlib.Core.Path.{_∙_}
+use mathlib.Core.Path.{refl, _∙_}
 use Rattle.rules.specs.Outcome.{callerEnded}
 use Rattle.rules.specs.Calls.{doExit}
 use Rattle.rules.specs.Step.{settled}
 use Rattle.model.proofs.Laying.{lays-own}
 use Rattle.model.proofs.Masks.{settled-as}
 
-refuse-requires : tie.Need-refuse-requires
-refuse-requires c κs = search needs
+refusal-requires : tie.Need-refusal-requires
+refusal-requires c κs = search needs
 
 returns : tie.Need-returns
 unfolding doExit settled
-returns c = rw (eq-eqb _ _ (c .before .if1 .taken)) (c .refuse .ensures)
+returns c = rw (eq-eqb _ _ (c .before .if1 .taken), c .refusal .ensures) refl
 
 end-process-requires : tie.Need-end-process-requires
 end-process-requires c κs = search needs
@@ -29,4 +29,4 @@ returns-2 c = rw (ne-eqb _ _ (c .before .before .if1 .left)) (c .settle .ensures
 
 pub exit-spec : {M : Type 1} → statement M
 exit-spec =
-    tie.close (tie.spec refuse-requires returns end-process-requires settle-requires returns-2)
+    tie.close (tie.spec refusal-requires returns end-process-requires settle-requires returns-2)

@@ -4,25 +4,25 @@ use Rattle.model.proofs.children.fshell.Statement.{statement}
 use Rattle.model.proofs.children.fshell.Tie as tie
 use borrow.Author.Tests.{lt-ltb, le-ltb, eq-eqb, ne-eqb, eqb-false}
 use native.Mathlib.Omega.{arith}
-use mathlib.Core.Path.{_≡_, _∙_}
+use mathlib.Core.Path.{_≡_}
 use mathlib.Core.Bool.{true, false, _||_}
 use mathlib.Core.Logic.{⊎-elim}
 use lib.Dec.{eqb, ltb}
 use Rattle.model.proofs.Laying.{lays-fits}
 use Rattle.model.proofs.Events.{next-fits, born-no, born-full, born-last}
 
-refuse-requires : tie.Need-refuse-requires
-refuse-requires c κs = search needs
+refusal-requires : tie.Need-refusal-requires
+refusal-requires c κs = search needs
 
 returns : tie.Need-returns
 returns c =
     let s = c .before .before .before in
     let h : (ltb 255 (s .args .e .d1) || ltb 255 (s .args .e .d2)) ≡ true =
     ⊎-elim (λ w. rw (lt-ltb _ _ (w .taken))) (λ w. rw (le-ltb _ _ (w .0 .left), w .2 .taken)) (c .before .if1 .came) in
-    c .refuse .ensures ∙ born-no (s .pre) (s .args .e) h
+    rw (c .refusal .ensures) (born-no (s .pre) (s .args .e) h)
 
-refuse-requires-2 : tie.Need-refuse-requires-2
-refuse-requires-2 c κs = search needs
+refusal-requires-2 : tie.Need-refusal-requires-2
+refusal-requires-2 c κs = search needs
 
 returns-2 : tie.Need-returns-2
 returns-2 c =
@@ -30,7 +30,7 @@ returns-2 c =
     let h : (ltb 255 (s .args .e .d1) || ltb 255 (s .args .e .d2)) ≡ false = rw (le-ltb _ _ (c .before .before .before .before .before .if1 .left), c .before .before .before .if2 .left) in
     let f : (eqb (s .args .s .live) 16 || eqb (s .args .s .next) 65536) ≡ true =
     ⊎-elim (λ w. rw (eq-eqb _ _ (w .taken))) (λ w. rw (ne-eqb _ _ (w .0 .left), w .2 .taken)) (c .before .if3 .came) in
-    c .refuse2 .ensures ∙ born-full (s .pre) (s .args .e) h f
+    rw (c .refusal2 .ensures) (born-full (s .pre) (s .args .e) h f)
 
 cast-child-of : tie.Need-cast-child-of
 cast-child-of c =
@@ -41,8 +41,8 @@ cast-child-of c =
 child-of-requires : tie.Need-child-of-requires
 child-of-requires c κs = search needs
 
-mul-t13 : tie.Need-mul-t13
-mul-t13 c = omega (arith, lays-fits (c .before .before .before .before .before .before .before .before .before .before .pre .lays))
+mul-t15 : tie.Need-mul-t15
+mul-t15 c = omega (arith, lays-fits (c .before .before .before .before .before .before .before .before .before .before .pre .lays))
 
 element-set-from-t : tie.Need-element-set-from-t
 element-set-from-t c =
@@ -55,30 +55,30 @@ add-t c = omega (arith, lays-fits (c .before .before .before .before .before .be
 add-t-2 : tie.Need-add-t-2
 add-t-2 c = omega (arith, next-fits (c .before .before .before .before .before .before .before .before .before .before .before .pre))
 
-answer-requires : tie.Need-answer-requires
-answer-requires c κs = search needs
+plain-requires : tie.Need-plain-requires
+plain-requires c κs = search needs
 
 returns-3 : tie.Need-returns-3
 returns-3 c =
     let s = c .before .before .before .before .before .before .before .before .before .before .before .before in
     let h : (ltb 255 (s .args .e .d1) || ltb 255 (s .args .e .d2)) ≡ false =
     rw (le-ltb _ _ (c .before .before .before .before .before .before .before .before .before .before .if1 .left), c .before .before .before .before .before .before .before .before .if2 .left) in
-    c .answer .ensures
-    ∙ rw (c .before .before .child-of .ensures) (born-last (s .pre) (s .args .e) h (c .before .before .before .before .before .before .if3 .left) (eqb-false _ _ (c .before .before .before .before .if4 .left)))
+    rw (c .plain .ensures)
+    (rw (c .before .before .child-of .ensures) (born-last (s .pre) (s .args .e) h (c .before .before .before .before .before .before .if3 .left) (eqb-false _ _ (c .before .before .before .before .if4 .left))))
 
 pub fshell-spec : {M : Type 1} → statement M
 fshell-spec =
     tie.close
     (tie.spec
-    refuse-requires
+    refusal-requires
     returns
-    refuse-requires-2
+    refusal-requires-2
     returns-2
     cast-child-of
     child-of-requires
-    mul-t13
+    mul-t15
     element-set-from-t
     add-t
     add-t-2
-    answer-requires
+    plain-requires
     returns-3)

@@ -12,8 +12,8 @@ use Rattle.locks.specs.Lists.{between}
 use Rattle.model.proofs.Laying.{lays-fits, lays-own}
 use Rattle.model.proofs.Events.{kill-range, may-any, may-own, place-fits, lives-here, lives-not, process-here, kill-no, kill-none, kill-foreign, kill-sent}
 
-refuse-requires : tie.Need-refuse-requires
-refuse-requires c κs = search needs
+refusal-requires : tie.Need-refusal-requires
+refusal-requires c κs = search needs
 
 returns : tie.Need-returns
 returns c =
@@ -26,7 +26,7 @@ returns c =
     (⊎-elim (λ w. rw (le-leb _ _ (w .0 .left), le-leb _ _ (ltb-false 7 a (w .2 .left)), lt-leb _ _ (ltb-true b 2 (w .4 .taken))))
     (λ w. rw (le-leb _ _ (w .0 .left), le-leb _ _ (ltb-false 7 a (w .2 .left)), le-leb _ _ (ltb-false b 2 (w .4 .left)), lt-leb _ _ (ltb-true 65535 b (w .6 .taken))))))
     (c .before .if1 .came) in
-    c .refuse .ensures ∙ kill-no _ _ (s .args .e) h
+    rw (c .refusal .ensures) (kill-no _ _ (s .args .e) h)
 
 cast-pid : tie.Need-cast-pid
 cast-pid c = omega (arith, ltb-false 65535 (c .before .before .before .before .before .before .before .before .before .args .e .d3) (c .before .if4 .left))
@@ -37,16 +37,16 @@ pids-of-requires c κs = search needs
 place-requires : tie.Need-place-requires
 place-requires c κs = lays-fits (c .before .before .before .before .before .before .before .before .before .before .pre)
 
-refuse-requires-2 : tie.Need-refuse-requires-2
-refuse-requires-2 c κs = search needs
+refusal-requires-2 : tie.Need-refusal-requires-2
+refusal-requires-2 c κs = search needs
 
 returns-2 : tie.Need-returns-2
 returns-2 c =
     let s = c .before .before .before .before .before .before .before .before .before .before .before .before .before in
     let u = c .before .before .before .before .before in
-    c .refuse2 .ensures
-    ∙ kill-none _ _ (s .args .e) (kill-range (s .args .e .d2) (s .args .e .d3) (u .before .before .before .before .before .before .if1 .left) (u .before .before .before .before .if2 .left) (u .before .before .if3 .left) (u .if4 .left))
-    (lives-not (s .pre) (c .before .before .before .pids-of .ensures) (s .args .e .d3) (c .before .before .place .ensures) (c .before .if5 .taken))
+    rw (c .refusal2 .ensures)
+    (kill-none _ _ (s .args .e) (kill-range (s .args .e .d2) (s .args .e .d3) (u .before .before .before .before .before .before .if1 .left) (u .before .before .before .before .if2 .left) (u .before .before .if3 .left) (u .if4 .left))
+    (lives-not (s .pre) (c .before .before .before .pids-of .ensures) (s .args .e .d3) (c .before .before .place .ensures) (c .before .if5 .taken)))
 
 is-privileged-requires : tie.Need-is-privileged-requires
 is-privileged-requires c κs = search needs
@@ -64,8 +64,8 @@ element-copy-out-if7 c =
     let d = c .before .before .if5 .left in
     omega (arith, lays-fits (s .pre))
 
-refuse-requires-3 : tie.Need-refuse-requires-3
-refuse-requires-3 c κs = search needs
+refusal-requires-3 : tie.Need-refusal-requires-3
+refusal-requires-3 c κs = search needs
 
 returns-3 : tie.Need-returns-3
 returns-3 c =
@@ -77,10 +77,10 @@ returns-3 c =
     let l = place-fits (s .pre) ns (s .args .e .d3) found in
     let d = c .before .before .before .before .before .if5 .left in
     let i : c .before .before .before .before .before .before .place .result < s .args .t1 .live = omega arith in
-    c .refuse3 .ensures
-    ∙ kill-foreign _ _ (s .args .e) range
+    rw (c .refusal3 .ensures)
+    (kill-foreign _ _ (s .args .e) range
     (lives-here (s .pre) ns (s .args .e .d3) found i)
-    (c .before .before .before .before .is-privileged .ensures) (process-here (s .pre) ns (s .args .e .d3) found _ i) (c .before .before .before .if6 .taken) (c .before .if7 .taken)
+    (c .before .before .before .before .is-privileged .ensures) (process-here (s .pre) ns (s .args .e .d3) found _ i) (c .before .before .before .if6 .taken) (c .before .if7 .taken))
 
 cast-arrive : tie.Need-cast-arrive
 cast-arrive c = search needs
@@ -113,17 +113,17 @@ pub kill-spec : {M : Type 1} → statement M
 kill-spec =
     tie.close
     (tie.spec
-    refuse-requires
+    refusal-requires
     returns
     cast-pid
     pids-of-requires
     place-requires
-    refuse-requires-2
+    refusal-requires-2
     returns-2
     is-privileged-requires
     mul-if7
     element-copy-out-if7
-    refuse-requires-3
+    refusal-requires-3
     returns-3
     cast-arrive
     arrive-requires

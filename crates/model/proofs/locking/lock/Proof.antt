@@ -13,15 +13,15 @@ use Rattle.model.proofs.Locks.{lock-bad, lock-on, shared-always, shared
 bad-sequence-requires : tie.Need-bad-sequence-requires
 bad-sequence-requires c κs = search needs
 
-refuse-requires : tie.Need-refuse-requires
-refuse-requires c κs = search needs
+refusal-requires : tie.Need-refusal-requires
+refusal-requires c κs = search needs
 
 returns : tie.Need-returns
 returns c = let a = c .before .before .args in
-    c .refuse .ensures
-    ∙ lock-bad (a .s) (a .p) (a .e)
+    rw (c .refusal .ensures)
+    (lock-bad (a .s) (a .p) (a .e)
     (⊎-elim (λ w. or-left (ltb 3 (a .e .d2)) (badSequence (a .e)) (lt-ltb 3 (a .e .d2) (w .taken)))
-    (λ w. or-right (ltb 3 (a .e .d2)) (badSequence (a .e)) (sym (w .1 .ensures) ∙ w .2 .taken)) (c .before .if1 .came))
+    (λ w. or-right (ltb 3 (a .e .d2)) (badSequence (a .e)) (sym (w .1 .ensures) ∙ w .2 .taken)) (c .before .if1 .came)))
 
 row-of-requires : tie.Need-row-of-requires
 row-of-requires c κs = sym (c .before .before .bad-sequence .ensures) ∙ c .before .if2 .left
@@ -42,7 +42,7 @@ lock-spec =
     tie.close
     (tie.spec
     bad-sequence-requires
-    refuse-requires
+    refusal-requires
     returns
     row-of-requires
     lock-row-requires

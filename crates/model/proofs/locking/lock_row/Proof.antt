@@ -19,45 +19,45 @@ passed c =
 has-twin-requires : tie.Need-has-twin-requires
 has-twin-requires c κs = search needs
 
-refuse-requires : tie.Need-refuse-requires
-refuse-requires c κs = search needs
+refusal-requires : tie.Need-refusal-requires
+refusal-requires c κs = search needs
 
 returns : tie.Need-returns
 returns c = let a = c .before .before .before .before .args in
-    c .refuse .ensures ∙ lock-held (a .s) (a .p) (a .e) (a .r) (sym (c .before .before .has-twin .ensures) ∙ c .before .if1 .taken)
+    rw (c .refusal .ensures) (lock-held (a .s) (a .p) (a .e) (a .r) (sym (c .before .before .has-twin .ensures) ∙ c .before .if1 .taken))
 
 waits-requires : tie.Need-waits-requires
 waits-requires c κs = search needs
 
-refuse-requires-2 : tie.Need-refuse-requires-2
-refuse-requires-2 c κs = search needs
+refusal-requires-2 : tie.Need-refusal-requires-2
+refusal-requires-2 c κs = search needs
 
 returns-2 : tie.Need-returns-2
 returns-2 c = let s = c .before .before .before .before .before in
     let a = s .before .before .before .args in
-    c .refuse2 .ensures ∙ lock-locked (a .s) (a .p) (a .e) (a .r) (sym (s .before .has-twin .ensures) ∙ s .if1 .left) (sym (c .before .before .before .before .waits .ensures) ∙ c .before .before .before .if2 .taken) (c .before .if3 .taken)
+    rw (c .refusal2 .ensures) (lock-locked (a .s) (a .p) (a .e) (a .r) (sym (s .before .has-twin .ensures) ∙ s .if1 .left) (sym (c .before .before .before .before .waits .ensures) ∙ c .before .before .before .if2 .taken) (c .before .if3 .taken))
 
 leads-back-requires : tie.Need-leads-back-requires
 leads-back-requires c κs = search needs
 
-refuse-requires-3 : tie.Need-refuse-requires-3
-refuse-requires-3 c κs = search needs
+refusal-requires-3 : tie.Need-refusal-requires-3
+refusal-requires-3 c κs = search needs
 
 returns-3 : tie.Need-returns-3
 returns-3 c = let s = c .before .before .before .before .before .before .before in
     let a = s .before .before .before .args in
-    c .refuse3 .ensures
-    ∙ lock-dead (a .s) (a .p) (a .e) (a .r) (sym (s .before .has-twin .ensures) ∙ s .if1 .left) (sym (c .before .before .before .before .before .before .waits .ensures) ∙ c .before .before .before .before .before .if2 .taken)
-    (c .before .before .before .if3 .left) (sym (leads-exact (rowsOf (a .s .table)) (a .r) (c .before .before .leads-back .ensures)) ∙ c .before .if4 .taken)
+    rw (c .refusal3 .ensures)
+    (lock-dead (a .s) (a .p) (a .e) (a .r) (sym (s .before .has-twin .ensures) ∙ s .if1 .left) (sym (c .before .before .before .before .before .before .waits .ensures) ∙ c .before .before .before .before .before .if2 .taken)
+    (c .before .before .before .if3 .left) (sym (leads-exact (rowsOf (a .s .table)) (a .r) (c .before .before .leads-back .ensures)) ∙ c .before .if4 .taken))
 
-refuse-requires-4 : tie.Need-refuse-requires-4
-refuse-requires-4 c κs = search needs
+refusal-requires-4 : tie.Need-refusal-requires-4
+refusal-requires-4 c κs = search needs
 
 returns-4 : tie.Need-returns-4
 returns-4 c = let s = c .before .before .before .before .before in
     let a = s .before .before .before .args in
     let h = sym (s .before .has-twin .ensures) ∙ s .if1 .left in
-    c .refuse4 .ensures ∙ lock-full (a .s) (a .p) (a .e) (a .r) h (s .before .before .before .pre .lays) (passed (c .before .before .before)) (c .before .if5 .taken)
+    rw (c .refusal4 .ensures) (lock-full (a .s) (a .p) (a .e) (a .r) h (s .before .before .before .pre .lays) (passed (c .before .before .before)) (c .before .if5 .taken))
 
 queue-requires : tie.Need-queue-requires
 unfolding view
@@ -75,15 +75,15 @@ lock-row-spec =
     tie.close
     (tie.spec
     has-twin-requires
-    refuse-requires
+    refusal-requires
     returns
     waits-requires
-    refuse-requires-2
+    refusal-requires-2
     returns-2
     leads-back-requires
-    refuse-requires-3
+    refusal-requires-3
     returns-3
-    refuse-requires-4
+    refusal-requires-4
     returns-4
     queue-requires
     returns-5)

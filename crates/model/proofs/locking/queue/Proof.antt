@@ -17,19 +17,19 @@ mul-t10 c = let h = caller-fits (c .before .before .before .pre .0) in search ne
 element-set-from-t : tie.Need-element-set-from-t
 element-set-from-t c = caller-fits (c .before .before .before .pre .0)
 
-answer-requires : tie.Need-answer-requires
-answer-requires c κs = search needs
+plain-requires : tie.Need-plain-requires
+plain-requires c κs = search needs
 
 returns : tie.Need-returns
 returns c = let s = c .before .before .before .before in
-    c .answer .ensures ∙ queue-waits (s .pre .0) (s .args .r) (s .pre .1 .0) (c .before .before .before .append .ensures) (c .before .asleep-for .ensures) (sym (s .pre .1 .1) ∙ c .before .before .if1 .taken)
+    rw (c .plain .ensures) (queue-waits (s .pre .0) (s .args .r) (s .pre .1 .0) (c .before .before .before .append .ensures) (c .before .asleep-for .ensures) (sym (s .pre .1 .1) ∙ c .before .before .if1 .taken))
 
-answer-requires-2 : tie.Need-answer-requires-2
-answer-requires-2 c κs = search needs
+plain-requires-2 : tie.Need-plain-requires-2
+plain-requires-2 c κs = search needs
 
 returns-2 : tie.Need-returns-2
 returns-2 c = let s = c .before .before .before in
-    c .answer2 .ensures ∙ queue-held (s .pre .0) (s .args .r) (s .pre .1 .0) (c .before .before .append .ensures) (sym (s .pre .1 .1) ∙ c .before .if1 .left)
+    rw (c .plain2 .ensures) (queue-held (s .pre .0) (s .args .r) (s .pre .1 .0) (c .before .before .append .ensures) (sym (s .pre .1 .1) ∙ c .before .if1 .left))
 
 pub queue-spec : {M : Type 1} → statement M
 queue-spec =
@@ -39,7 +39,7 @@ queue-spec =
     asleep-for-requires
     mul-t10
     element-set-from-t
-    answer-requires
+    plain-requires
     returns
-    answer-requires-2
+    plain-requires-2
     returns-2)

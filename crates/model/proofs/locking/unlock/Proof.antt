@@ -10,12 +10,12 @@ use Rattle.model.proofs.Locks.{unlock-bad, unlock-on, unlock-tidy, unlo
 bad-sequence-requires : tie.Need-bad-sequence-requires
 bad-sequence-requires c κs = search needs
 
-refuse-requires : tie.Need-refuse-requires
-refuse-requires c κs = search needs
+refusal-requires : tie.Need-refusal-requires
+refusal-requires c κs = search needs
 
 returns : tie.Need-returns
 returns c = let a = c .before .before .before .args in
-    c .refuse .ensures ∙ unlock-bad (a .s) (a .p) (a .e) (sym (c .before .before .bad-sequence .ensures) ∙ c .before .if1 .taken)
+    rw (c .refusal .ensures) (unlock-bad (a .s) (a .p) (a .e) (sym (c .before .before .bad-sequence .ensures) ∙ c .before .if1 .taken))
 
 row-of-requires : tie.Need-row-of-requires
 row-of-requires c κs = sym (c .before .bad-sequence .ensures) ∙ c .if1 .left
@@ -23,15 +23,15 @@ row-of-requires c κs = sym (c .before .bad-sequence .ensures) ∙ c .if1 .left
 has-twin-requires : tie.Need-has-twin-requires
 has-twin-requires c κs = search needs
 
-refuse-requires-2 : tie.Need-refuse-requires-2
-refuse-requires-2 c κs = search needs
+refusal-requires-2 : tie.Need-refusal-requires-2
+refusal-requires-2 c κs = search needs
 
 returns-2 : tie.Need-returns-2
 returns-2 c = let s = c .before .before .before in
     let a = s .before .before .before .args in
-    c .refuse2 .ensures
-    ∙ unlock-none (a .s) (s .row-of .result) (sym (c .before .before .has-twin .ensures) ∙ not-true _ (c .before .if2 .taken))
-    ∙ unlock-on (a .s) (a .p) (a .e) (sym (s .before .before .bad-sequence .ensures) ∙ s .before .if1 .left) (s .row-of .ensures)
+    rw (c .refusal2 .ensures)
+    (unlock-none (a .s) (s .row-of .result) (sym (c .before .before .has-twin .ensures) ∙ not-true _ (c .before .if2 .taken))
+    ∙ unlock-on (a .s) (a .p) (a .e) (sym (s .before .before .bad-sequence .ensures) ∙ s .before .if1 .left) (s .row-of .ensures))
 
 without-twin-requires : tie.Need-without-twin-requires
 without-twin-requires c κs = search needs
@@ -56,11 +56,11 @@ unlock-spec =
     tie.close
     (tie.spec
     bad-sequence-requires
-    refuse-requires
+    refusal-requires
     returns
     row-of-requires
     has-twin-requires
-    refuse-requires-2
+    refusal-requires-2
     returns-2
     without-twin-requires
     rows-left-requires

@@ -1,34 +1,35 @@
--- `soundness::process::seven_zeros` meets its contract: the elements before place i pass. Assumes nothing.
+-- `soundness::process::seven_zeros` meets its contract: the elements before place i are summed. Assumes nothing.
 use Rattle.soundness.proofs.process.seven_zeros.Statement.{statement}
 use Rattle.soundness.proofs.process.seven_zeros.Tie as tie
 use borrow.Author.Needs.{needs}
-use Prim.Native.Nat.{_-_}
+use Prim.Native.Nat.{_-_, _*_, _≤_, _<_}
+use native.Mathlib.Omega.{arith}
 use mathlib.Core.Path.{_≡_, sym}
-use lib.ListN.{length}
-use borrow.Author.Tests.{eq-eqb, ne-eqb}
-use Rattle.locks.specs.Lists.{isZero}
-use Rattle.soundness.proofs.Loops.{Passing, from, pass, fail, passed}
+use lib.ListN.{length, getD}
+use mir.Val.{Fits}
+use mir.Syntax.{w32}
+use Rattle.soundness.proofs.Loops.{Summing, sum-start, sum-add, sum-end}
 
 abbrev Inv-loop : tie.InvT-loop
-Inv-loop a i₀ i = Passing isZero a a 7 i
+Inv-loop a sum₀ i₀ sum i = (sum ≤ 4294967296 * i) × Summing a 0 i sum
 
 abbrev μ-loop : tie.MeasureT-loop
-μ-loop a i₀ i = 7 - i
+μ-loop a sum₀ i₀ sum i = 7 - i
 
 loop-holds : tie.Need-loop-holds Inv-loop μ-loop
-loop-holds c = from isZero _ 7 0 (search needs)
+loop-holds c = (search needs, sum-start _ 0)
 
-mul-if1 : tie.Need-mul-if1 Inv-loop μ-loop
-mul-if1 c = search needs
+mul-sum : tie.Need-mul-sum Inv-loop μ-loop
+mul-sum c = search needs
 
-array-read-if1 : tie.Need-array-read-if1 Inv-loop μ-loop
-array-read-if1 c = search needs
+array-read-sum : tie.Need-array-read-sum Inv-loop μ-loop
+array-read-sum c = search needs
 
-returns : tie.Need-returns Inv-loop μ-loop
-returns c =
-    let s = c .before .before .before in
-    let l : length (s .args .t1) ≡ 7 = search needs in
-    rw l (sym (fail (c .before .before .loop .inv) _ (c .before .loop-test .taken) (ne-eqb _ _ (c .if1 .taken))))
+cast-sum : tie.Need-cast-sum Inv-loop μ-loop
+cast-sum c = search needs
+
+add-sum : tie.Need-add-sum Inv-loop μ-loop
+add-sum c = let h : Fits w32 (getD (c .before .before .args .t1) (c .before .loop .i) 0) = search needs in search needs
 
 add-i : tie.Need-add-i Inv-loop μ-loop
 add-i c = search needs
@@ -37,13 +38,17 @@ loop-less : tie.Need-loop-less Inv-loop μ-loop
 loop-less c = search needs
 
 loop-again : tie.Need-loop-again Inv-loop μ-loop
-loop-again c = pass (c .before .before .loop .inv) _ (c .before .loop-test .taken) (eq-eqb _ _ (c .if1 .left))
+loop-again c =
+    let h : Fits w32 (getD (c .before .before .args .t1) (c .before .loop .i) 0) = search needs in
+    let l : length (c .before .before .args .t1) ≡ 7 = search needs in
+    let k : c .before .loop .i < length (c .before .before .args .t1) = omega (arith, c .loop-test .taken) in
+    (search needs, sum-add (c .before .loop .inv .1) (omega arith) k)
 
-returns-2 : tie.Need-returns-2 Inv-loop μ-loop
-returns-2 c =
-    let s = c .before .before in
-    let l : length (s .args .t1) ≡ 7 = search needs in
-    rw l (sym (passed (c .before .loop .inv) (c .loop-test .left)))
+returns : tie.Need-returns Inv-loop μ-loop
+returns c =
+    let l : length (c .before .before .args .t1) ≡ 7 = search needs in
+    let k : length (c .before .before .args .t1) ≤ c .before .loop .i = omega (arith, c .loop-test .left) in
+    rw l (sym (sum-end (c .before .loop .inv .1) k))
 
 pub seven-zeros-spec : {M : Type 1} → statement M
 seven-zeros-spec =
@@ -52,10 +57,11 @@ seven-zeros-spec =
     Inv-loop
     μ-loop
     loop-holds
-    mul-if1
-    array-read-if1
-    returns
+    mul-sum
+    array-read-sum
+    cast-sum
+    add-sum
     add-i
     loop-less
     loop-again
-    returns-2)
+    returns)

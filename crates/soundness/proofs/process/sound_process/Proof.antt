@@ -3,12 +3,14 @@ use borrow.Author.Needs.{needs}
 use Rattle.soundness.proofs.process.sound_process.Statement.{statement}
 use Rattle.soundness.proofs.process.sound_process.Tie as tie
 use mathlib.Core.Path.{_≡_}
-use mathlib.Core.Bool.{_&&_}
+use mathlib.Core.Bool.{cond, _&&_}
 use mathlib.Core.Logic.{⊎-elim}
 use borrow.Author.Tests.{eq-eqb, ne-eqb}
-use Rattle.locks.specs.Rows.{rowsOf}
+use lib.Dec.{eqb}
 use Rattle.rules.specs.Calls.{inPriority}
-use Rattle.rules.specs.Sound.{sleepFits, wakeFits, quiet, trapsFit, reactionsFit, lockFits, soundProcess}
+use Rattle.rules.specs.Sound.{sleepFits, wakeFits, quiet, trapsFit, reactionsFit}
+use Rattle.rules.specs.State.{forLock}
+use Rattle.soundness.specs.Waiting.{soundWaiting}
 
 sleep-fits-requires : tie.Need-sleep-fits-requires
 sleep-fits-requires c κs = search needs
@@ -48,8 +50,8 @@ six : (j : tie.Joined6) → let p = j .before .before .before .before .before .b
 six j = ⊎-elim (λ w. rw (w .2, w .0 .taken) (w .1 .ensures)) (λ w. rw (w .1, w .0 .left)) (j .if6 .came)
 
 in-all : (j : tie.Joined6) → let s = j .before .before .before .before .before .before .before .before in
-    soundProcess (rowsOf (s .args .t)) (s .args .p) ≡ (j .if6 .if7 && lockFits (rowsOf (s .args .t)) (s .args .p .pid) (s .args .p .rest .sleep))
-unfolding soundProcess
+    soundWaiting (s .args .waiting) (s .args .p) ≡ (j .if6 .if7 && eqb (s .args .waiting) (cond (eqb (s .args .p .rest .sleep) forLock) 1 0))
+unfolding soundWaiting
 in-all j = rw (← two (j .before .before .before .before), ← three (j .before .before .before), ← four (j .before .before), ← five (j .before), ← six j)
 
 returns : tie.Need-returns

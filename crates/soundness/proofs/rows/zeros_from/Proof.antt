@@ -1,28 +1,33 @@
--- `soundness::rows::zeros_from` meets its contract: the bytes before place i pass. Assumes nothing.
+-- `soundness::rows::zeros_from` meets its contract: the bytes before place i are summed. Assumes nothing.
 use Rattle.soundness.proofs.rows.zeros_from.Statement.{statement}
 use Rattle.soundness.proofs.rows.zeros_from.Tie as tie
 use borrow.Author.Needs.{needs}
-use Prim.Native.Nat.{_-_}
-use mathlib.Core.Path.{sym}
-use lib.ListN.{drop}
-use borrow.Author.Tests.{eq-eqb, ne-eqb}
-use Rattle.locks.specs.Lists.{isZero}
-use Rattle.soundness.proofs.Loops.{Passing, from, pass, fail, passed}
+use Prim.Native.Nat.{_+_, _-_, _*_, _≤_, _<_}
+use native.Mathlib.Omega.{arith}
+use mathlib.Core.Path.{_≡_, sym}
+use mathlib.Core.Logic.{⊎-elim}
+use lib.ListN.{length, getD}
+use mir.Val.{Fits}
+use mir.Syntax.{w8}
+use Rattle.soundness.proofs.Loops.{Summing, sum-start, sum-skip, sum-add, sum-end}
 
 abbrev Inv-loop : tie.InvT-loop
-Inv-loop from bytes i₀ i = Passing isZero (drop from bytes) bytes 16 i
+Inv-loop from bytes sum₀ i₀ sum i = (sum ≤ 256 * i) × Summing bytes from i sum
 
 abbrev μ-loop : tie.MeasureT-loop
-μ-loop from bytes i₀ i = 16 - i
+μ-loop from bytes sum₀ i₀ sum i = 16 - i
 
 loop-holds : tie.Need-loop-holds Inv-loop μ-loop
-loop-holds c = from isZero _ 16 _ (search needs)
+loop-holds c = (search needs, sum-start _ _)
 
-array-read-if1 : tie.Need-array-read-if1 Inv-loop μ-loop
-array-read-if1 c = search needs
+array-read-sum : tie.Need-array-read-sum Inv-loop μ-loop
+array-read-sum c = search needs
 
-returns : tie.Need-returns Inv-loop μ-loop
-returns c = sym (fail (c .before .before .loop .inv) _ (c .before .loop-test .taken) (ne-eqb _ _ (c .if1 .taken)))
+cast-sum : tie.Need-cast-sum Inv-loop μ-loop
+cast-sum c = search needs
+
+add-sum : tie.Need-add-sum Inv-loop μ-loop
+add-sum c = let h : Fits w8 (getD (c .before .before .before .args .t1) (c .before .before .loop .i) 0) = search needs in search needs
 
 add-i : tie.Need-add-i Inv-loop μ-loop
 add-i c = search needs
@@ -31,10 +36,21 @@ loop-less : tie.Need-loop-less Inv-loop μ-loop
 loop-less c = search needs
 
 loop-again : tie.Need-loop-again Inv-loop μ-loop
-loop-again c = pass (c .before .before .loop .inv) _ (c .before .loop-test .taken) (eq-eqb _ _ (c .if1 .left))
+loop-again c =
+    let a = c .before .before .before .args in
+    let v = c .before .before .loop in
+    let h : Fits w8 (getD (a .t1) (v .i) 0) = search needs in
+    let l : length (a .t1) ≡ 16 = search needs in
+    let k : v .i < length (a .t1) = omega (arith, c .before .loop-test .taken) in
+    let b : v .sum + getD (a .t1) (v .i) 0 ≤ 256 * (v .i + 1) = search needs in
+    let d : v .sum ≤ 256 * (v .i + 1) = search needs in
+    ⊎-elim (λ w. rw (w .1) (b, sum-add (v .inv .1) (w .0 .taken) k)) (λ w. rw (w .1) (d, sum-skip (v .inv .1) (w .0 .left))) (c .if1 .came)
 
-returns-2 : tie.Need-returns-2 Inv-loop μ-loop
-returns-2 c = sym (passed (c .before .loop .inv) (c .loop-test .left))
+returns : tie.Need-returns Inv-loop μ-loop
+returns c =
+    let l : length (c .before .before .args .t1) ≡ 16 = search needs in
+    let k : length (c .before .before .args .t1) ≤ c .before .loop .i = omega (arith, c .loop-test .left) in
+    sym (sum-end (c .before .loop .inv .1) k)
 
 pub zeros-from-spec : {M : Type 1} → statement M
 zeros-from-spec =
@@ -43,9 +59,10 @@ zeros-from-spec =
     Inv-loop
     μ-loop
     loop-holds
-    array-read-if1
-    returns
+    array-read-sum
+    cast-sum
+    add-sum
     add-i
     loop-less
     loop-again
-    returns-2)
+    returns)

@@ -29,7 +29,7 @@ unused-processes-requires : tie.Need-unused-processes-requires
 unused-processes-requires c κs = search needs
 
 abbrev state : tie.Else3 → State
-state e = e .before .before .before .before .before .before .before .args .s
+state e = e .before .before .before .before .before .before .args .s
 
 -- the counts fit
 counted : (e : tie.Else3) → let s = state e in
@@ -75,8 +75,8 @@ pids-fit e = sym (e .before .pids-fit .ensures) ∙ not-false _ (e .if6 .left)
 returns-7 : tie.Need-returns-7
 returns-7 c = let e = c .before .before in sym (as-machine (e .before .before) ∙ rw (pids-fit e, sym (c .before .sound-rows .ensures) ∙ not-true _ (c .if7 .taken)))
 
-rows-apart-requires : tie.Need-rows-apart-requires
-rows-apart-requires c κs = search needs
+waiters-of-requires : tie.Need-waiters-of-requires
+waiters-of-requires c κs = search needs
 
 rows-fit : (f : tie.Else7) → let a = f .before .before .before .before in let s = state (a .before .before .before .before .before) in
     all (soundRow (take (s .live) (a .pids-of .result))) (rowsOf (s .table)) ≡ true
@@ -84,19 +84,19 @@ rows-fit f = sym (f .before .sound-rows .ensures) ∙ not-false _ (f .if7 .left)
 
 returns-8 : tie.Need-returns-8
 returns-8 c =
-    let f = c .before .before in
+    let f = c .before .before .before in
     let e = f .before .before in
-    sym (as-machine (e .before .before) ∙ rw (pids-fit e, rows-fit f, sym (c .before .rows-apart .ensures) ∙ not-true _ (c .if8 .taken)))
+    sym (as-machine (e .before .before) ∙ rw (pids-fit e, rows-fit f, sym (c .before .before .waiters-of .ensures .alone) ∙ not-true _ (c .if8 .taken)))
 
 sound-processes-requires : tie.Need-sound-processes-requires
-sound-processes-requires c κs = search needs
+sound-processes-requires c κs = (search needs, (not-false _ (c .if8 .left), c .before .before .waiters-of .ensures))
 
 returns-9 : tie.Need-returns-9
 returns-9 c =
     let g = c .before in
-    let f = g .before .before in
+    let f = g .before .before .before in
     let e = f .before .before in
-    c .sound-processes .ensures ∙ sym (as-machine (e .before .before) ∙ rw (pids-fit e, rows-fit f, sym (g .before .rows-apart .ensures) ∙ not-false _ (g .if8 .left)))
+    c .sound-processes .ensures ∙ sym (as-machine (e .before .before) ∙ rw (pids-fit e, rows-fit f, sym (g .before .before .waiters-of .ensures .alone) ∙ not-false _ (g .if8 .left)))
 
 pub is-sound-spec : {M : Type 1} → statement M
 is-sound-spec =
@@ -114,7 +114,7 @@ is-sound-spec =
     returns-6
     sound-rows-requires
     returns-7
-    rows-apart-requires
+    waiters-of-requires
     returns-8
     sound-processes-requires
     returns-9)
