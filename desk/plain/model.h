@@ -1,0 +1,65 @@
+/* In-place model of the process, signal and lock system of document 01. */
+#ifndef MODEL_H
+#define MODEL_H
+
+#include <stdint.h>
+
+enum { PROCESSES = 16, ROWS = 32, SIGNALS = 7, SEQ = 16 };
+
+enum { EV_CALL = 1, EV_TICK, EV_TAKE, EV_REPORT };
+enum { DONE, ASLEEP, ENDED, REFUSED };
+enum {
+    R_BADSTATE = 1, R_BADCALLER, R_ASLEEP, R_TRAP, R_BADCALL, R_NOTMODELLED,
+    R_PRIV, R_NOPROC, R_NOMEMORY, R_HELD, R_LOCKED, R_DEADLOCK, R_LCKTABLE,
+    R_NOTLOCKED
+};
+enum { SLEEP_NONE, SLEEP_PAUSE, SLEEP_LOCK, SLEEP_TIMED };
+enum { WAKE_NEVER, WAKE_GRANTED, WAKE_SIGNAL, WAKE_TIME };
+enum { ABORT, IGNORE };                 /* a reaction above 1 is a trap address */
+enum { SIG_KILL = 3, SIG_ALARM = 5 };
+enum { SHARED, UNSHARED };
+
+struct process {
+    uint16_t pid;
+    uint16_t user[3], group[3];         /* effective, login, program */
+    uint8_t  pending;                   /* signal s is bit s-1 */
+    uint8_t  sleep, wake;
+    uint32_t priority;                  /* 32-bit two's complement */
+    uint32_t alarm;
+    uint32_t seconds;                   /* left of a timed sleep */
+    uint32_t left;                      /* left when a signal ended it */
+    uint32_t reaction[SIGNALS];         /* signal s is at s-1 */
+    uint32_t address[SIGNALS];
+};
+
+struct row {
+    uint16_t owner;                     /* PID */
+    uint8_t  kind, len;
+    uint8_t  seq[SEQ];                  /* zeros after len */
+};
+
+struct state {
+    uint32_t next_pid;
+    uint8_t  live, rows;
+    struct process process[PROCESSES];
+    struct row row[ROWS];
+};
+
+struct event {
+    uint8_t  kind, call;
+    uint16_t caller, d0, d1, d2;
+    uint32_t d3, a0;
+    uint8_t  named;
+    uint8_t  seq[SEQ];
+};
+
+struct answer {
+    uint8_t  kind, number;
+    uint16_t woken, ended;
+    uint32_t d3, a0;
+};
+
+void state_fresh(struct state *st);
+void state_event(struct state *st, const struct event *ev, struct answer *an);
+
+#endif
