@@ -1,6 +1,5 @@
 // Lines of a story: numbers apart by spaces.
 use rules::state::Event;
-ghost use mathlib.Core.Path.{_≡_};
 ghost use lib.ListN.{length};
 ghost use Prim.Native.Nat.{_≤_, _<_};
 

@@ -4,12 +4,12 @@ use native.Mathlib.Omega.{arith}
 use mathlib.Core.Path.{_≡_, refl, sym, ap, _∙_}
 use mathlib.Core.Bool.{Bool, true, false, cond, not, _&&_, _||_, and-eq-true-iff}
 use mathlib.Core.List.{List, [], _∷_, _++_}
-use lib.ListN.{length, getD, take, set, length-map, length-append, List·getD-map}
+use lib.ListN.{length, getD, take, set, length-map, length-append}
 use lib.Dec.{eqb, ltb}
-use borrow.Author.Tests.{lt-ltb, le-ltb, le-leb, eq-eqb, ne-eqb, ltb-false, not-true, not-false, eqb-true}
-use Rattle.locks.specs.Lists.{member, between, padded}
+use borrow.Author.Tests.{lt-ltb, le-ltb, le-leb, eq-eqb, ne-eqb, ltb-false, not-true, not-false}
+use Rattle.locks.specs.Lists.{between, padded}
 use Rattle.locks.proofs.Tests.{cases, or-left, or-right}
-use Rattle.locks.proofs.Loops.{Walk, walk-next, walk-end, done-length, none-next, none, padded-more}
+use Rattle.locks.proofs.Loops.{padded-more}
 use Rattle.rules.specs.State.{noProcess, view, laid, pids, lives, processOf, sleeps, privileged}
 use Rattle.rules.specs.Outcome.{done, answered, own}
 use Rattle.rules.specs.Signals.{taken, arrives}
@@ -26,7 +26,7 @@ use Rattle.rules.proofs.Frame.{fit-next, live-pid}
 use Rattle.rules.proofs.States.{sound-stays}
 use Rattle.soundness.proofs.Laws.{take-pids}
 use Rattle.model.specs.Laid.{Lays, Caller, placeOf, refusedBy, answeredAs}
-use Rattle.model.proofs.Places.{place-found, place-none, place-member, first-found}
+use Rattle.model.proofs.Places.{place-member, first-found}
 use Rattle.model.proofs.Laying.{lays-live, lays-fits, lays-long, lays-table, lays-view}
 use Rattle.model.proofs.Masks.{born-masks, settled-quiet}
 use Rattle.model.proofs.Kept.{caller-ok}
@@ -93,39 +93,6 @@ module _ {s : State} (l : Lays s (view s)) {ns : List ℕ} (q : ns ≡ pids (s .
         is = p ∙ ap (processOf (view s)) (sym m);
         awake = z;
       }
-
--- ---- looking for the caller
-
--- none of the first i processes has PID n
-pub record Seeks (s : State) (n i : ℕ) : Type 0 where
-  pub lays : Lays s (view s)
-  pub inside : i ≤ s .live
-  pub room : s .live ≤ 16
-  pub none : member n (take i (pids (s .procs))) ≡ false
-
-pub seeks-start : {s : State} (n : ℕ) → Lays s (view s) → Seeks s n 0
-seeks-start n l = record { lays = l; inside = zero-le; room = lays-fits l; none = refl }
-
-module _ {s : State} {n i : ℕ} (w : Seeks s n i) where
-  walk : Walk (pids (s .procs)) 16 (s .live) (s .live) i
-  walk = record { inside = w .inside; fits = w .room; long = length-map (s .procs) _ ∙ lays-long (w .lays); whole = refl }
-
-  pid-at : (d : Process) → getD (pids (s .procs)) i (d .pid) ≡ getD (s .procs) i d .pid
-  pid-at d = List·getD-map (λ (p : Process). p .pid) (s .procs) i d
-
-  pub seeks-next : (d : Process) → i < s .live → not (eqb (getD (s .procs) i d .pid) n) ≡ true → Seeks s n (i + 1)
-  seeks-next d l h =
-      let e : eqb (getD (pids (s .procs)) i (d .pid)) n ≡ false = ap (λ (k : ℕ). eqb k n) (pid-at d) ∙ not-true _ h in
-      record { lays = w .lays; inside = walk-next walk l .inside; room = w .room; none = none-next walk (λ (k : ℕ). eqb k n) (d .pid) l (w .none) e }
-
-  pub seeks-found : (d : Process) → i < s .live → not (eqb (getD (s .procs) i d .pid) n) ≡ false → i ≡ placeOf n (take (s .live) (pids (s .procs)))
-  seeks-found d l h =
-      let long : s .live ≤ length (pids (s .procs)) = omega (arith, w .room, walk .long) in
-      place-found n (pids (s .procs)) (s .live) i (d .pid) l long (w .none) (pid-at d ∙ eqb-true _ n (not-false _ h))
-
-  pub seeks-none : s .live ≤ i → i ≡ placeOf n (take (s .live) (pids (s .procs)))
-  seeks-none l =
-      sym (place-none n (take (s .live) (pids (s .procs))) (none walk (λ (k : ℕ). eqb k n) l (w .none)) ∙ ap length (sym (walk-end walk l)) ∙ done-length walk)
 
 -- ---- the checks of an event, in their order
 

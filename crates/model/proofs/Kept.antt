@@ -1,12 +1,10 @@
 -- A call that touches its caller alone: the caller as it is after, in its place. Assumes nothing.
-use Prim.Native.Nat.{ℕ, _-_, _<_}
-use mathlib.Core.Path.{_≡_, refl, ap, _∙_}
+use Prim.Native.Nat.{ℕ}
+use mathlib.Core.Path.{_≡_, refl}
 use mathlib.Core.Bool.{true, false, and-eq-true-iff}
-use lib.ListN.{length, replicate, length-map}
-use lib.Seq.{set-append-left}
+use lib.ListN.{length-map}
 use lib.Dec.{eqb}
-use Rattle.locks.specs.Lists.{padded}
-use Rattle.rules.specs.State.{Machine, view, laid, noProcess, pids, put}
+use Rattle.rules.specs.State.{view, put}
 use Rattle.rules.specs.Outcome.{Kind, kindOf, done, nowAsleep, callerEnded, Outcome, refused, answered, when, either, own}
 use Rattle.rules.specs.Signals.{takes, taken}
 use Rattle.rules.specs.Calls.{getId, setId, setPrior, setSignal, doSleep, ownCall}
@@ -20,8 +18,8 @@ use Rattle.rules.specs.declared.calls.OwnCall.the-variants.{GetUser, SetUser, G
 use Rattle.rules.proofs.Walk.{Leaves}
 use Rattle.rules.proofs.Frame.{Ok}
 use Rattle.processes.specs.Told.{told}
-use Rattle.model.specs.Laid.{Lays, Caller, placeOf, stored, kept}
-use Rattle.model.proofs.Places.{place-put, put-length}
+use Rattle.model.specs.Laid.{Caller, kept}
+use Rattle.model.proofs.Laying.{lays-put}
 use Rattle.model.proofs.Masks.{put-masks, settled-quiet}
 
 -- ---- its PID stays
@@ -50,16 +48,6 @@ reported-pids p = refl
 
 -- ---- in its place
 
-put-laid : (q : Process) (m : Machine) (i : ℕ) → i ≡ placeOf (q .pid) (pids (m .procs)) → i < length (m .procs) → stored i q (laid m) ≡ laid (put q m)
-unfolding laid put padded
-put-laid q m i e l =
-    rw (set-append-left (m .procs) (replicate (16 - length (m .procs)) noProcess) i q l, e, place-put q (m .procs), put-length q (m .procs))
-
-lays-stored : {s : State} {i : ℕ} (q : Process) → Lays s (view s) → i ≡ placeOf (q .pid) (pids (view s .procs)) → i < length (view s .procs) → Lays (stored i q s) (put q (view s))
-unfolding put
-lays-stored {s} {i} q l e h =
-    record { is = ap (stored i q) (l .is) ∙ put-laid q (view s) i e h; live = rw (put-length q (view s .procs)) (l .live); used = l .used }
-
 pub caller-ok : {s : State} {i : ℕ} {p : Process} → Caller s i p → Ok (view s)
 unfolding soundMachine
 caller-ok c =
@@ -79,7 +67,7 @@ unfolding settled put
 keeps c (refused r) g = refl
 keeps {s} {i} {p} c (answered k d3 a0 q) g =
     rw (no-refusal k)
-    (settled-quiet s k d3 a0 (lays-stored q (c .lays) (rw g (c .place)) (c .stands))
+    (settled-quiet s k d3 a0 (lays-put q (c .lays) (rw g (c .place)) (c .stands))
     (put-masks (view s) (put q (view s)) (caller-ok c) q refl (rw (g, ← c .is) (c .awake))))
 keeps c (when true r o) g = refl
 keeps c (when false r o) g = keeps c o (g refl)

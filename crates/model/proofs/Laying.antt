@@ -62,10 +62,6 @@ module _ {s : State} {m : Machine} (l : Lays s m) where
   unfolding laid padded
   lays-unused = ap (λ (t : State). drop (t .live) (t .procs)) (l .is) ∙ drop-append-seam (m .procs) (replicate (16 - length (m .procs)) noProcess)
 
-  pub lays-rows : rowsOf (s .table) ≡ m .rows
-  unfolding view
-  lays-rows = ap (λ (n : Machine). n .rows) lays-view
-
   pub lays-table : s .table ≡ laidRows (m .rows)
   unfolding laid
   lays-table = ap (λ (t : State). t .table) (l .is)
@@ -141,11 +137,14 @@ module _ {n : ℕ} {s : State} {i : ℕ} (k : Seeking n s i) where
           passed = rw (add-one i, take-suc (pids (s .procs)) i (d .pid) b, any-end (λ x. eqb x n) (take i (pids (s .procs))) (getD (pids (s .procs)) i (d .pid)), k .passed, pid-at) (ne-eqb (getD (s .procs) i d .pid) n h);
         }
 
+    pub sought-among : getD (s .procs) i d .pid ≡ n → i ≡ placeOf n (take (s .live) (pids (s .procs)))
+    sought-among h =
+        let b : s .live ≤ length (pids (s .procs)) = omega (arith, pids-long, k .fits) in
+        place-found n (pids (s .procs)) (s .live) i (d .pid) l b (k .passed) (pid-at ∙ h)
+
     pub sought : getD (s .procs) i d .pid ≡ n → i ≡ placeOf n (pids (view s .procs))
     unfolding view
-    sought h =
-        let b : s .live ≤ length (pids (s .procs)) = omega (arith, pids-long, k .fits) in
-        place-found n (pids (s .procs)) (s .live) i (d .pid) l b (k .passed) (pid-at ∙ h) ∙ ap (placeOf n) (take-pids (s .live) (s .procs))
+    sought h = sought-among h ∙ ap (placeOf n) (take-pids (s .live) (s .procs))
 
     -- the process itself
     pub sought-one : getD (s .procs) i d .pid ≡ n → getD (s .procs) i d ≡ processOf (view s) n
@@ -158,6 +157,10 @@ module _ {n : ℕ} {s : State} {i : ℕ} (k : Seeking n s i) where
       let e : i ≡ s .live = omega (arith, k .inside) in
       let m : member n (pids (take (s .live) (s .procs))) ≡ false = rw (← take-pids (s .live) (s .procs), ← e) (k .passed) in
       e ∙ lays-live (k .lays) ∙ sym (place-none n (pids (take (s .live) (s .procs))) m ∙ length-map (take (s .live) (s .procs)) (λ (p : Process). p .pid))
+
+  pub unsought-among : s .live ≤ i → i ≡ placeOf n (take (s .live) (pids (s .procs)))
+  unfolding view
+  unsought-among h = unsought h ∙ ap (placeOf n) (sym (take-pids (s .live) (s .procs)))
 
   pub unsought-one : s .live ≤ i → noProcess ≡ processOf (view s) n
   unfolding view processOf

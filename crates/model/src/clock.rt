@@ -4,7 +4,6 @@ use crate::state::*;
 use processes::*;
 use rules::state::*;
 use soundness::pids_of;
-ghost use mathlib.Core.Path.{_≡_};
 ghost use Prim.Native.Nat.{_-_, _≤_};
 ghost use Rattle.rules.specs.State.{view, pids, each};
 ghost use Rattle.rules.specs.Clock.{slept, rings, alarms, ticked};

@@ -6,7 +6,7 @@ use rules::state::*;
 ghost use mathlib.Core.Path.{_≡_};
 ghost use Prim.Native.Nat.{_≤_};
 ghost use Rattle.locks.specs.Rows.{withoutWaiting};
-ghost use Rattle.rules.specs.State.{view, processOf, put, rowsLeft};
+ghost use Rattle.rules.specs.State.{view, put, rowsLeft};
 ghost use Rattle.rules.specs.Signals.{gone, ends, roused, trapped, arrives};
 ghost use Rattle.model.specs.Laid.{Lays};
 

@@ -2,13 +2,11 @@
 use locks::rows::*;
 use processes::*;
 use rules::state::*;
-use soundness::pids_of;
 ghost use mathlib.Core.Path.{_≡_};
-ghost use mathlib.Core.List.{map};
 ghost use lib.ListN.{take};
 ghost use Prim.Native.Nat.{_≤_};
 ghost use Rattle.locks.specs.Rows.{rowsOf};
-ghost use Rattle.rules.specs.State.{view, laid, fresh, processOf, put, granted, rowsLeft};
+ghost use Rattle.rules.specs.State.{view, laid, fresh, processOf, put, rowsLeft};
 ghost use Rattle.model.specs.Laid.{Lays, Tidy, placeOf};
 
 pub fn fresh() -> State

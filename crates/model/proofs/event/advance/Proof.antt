@@ -3,7 +3,7 @@ use borrow.Author.Needs.{needs}
 use Rattle.model.proofs.event.advance.Statement.{statement}
 use Rattle.model.proofs.event.advance.Tie as tie
 use Prim.Native.Nat.{ℕ, _-_, _<_}
-use borrow.Author.Tests.{lt-leb, le-leb, ltb-true, eq-eqb, ne-eqb}
+use borrow.Author.Tests.{lt-leb, le-leb, ltb-true, eq-eqb, ne-eqb, eqb-true, eqb-false, not-true, not-false}
 use borrow.Fn.Kinds as kinds
 use native.Mathlib.Omega.{arith}
 use mathlib.Core.Path.{_≡_, refl, sym, ap, _∙_}
@@ -25,15 +25,15 @@ use Rattle.model.specs.declared.event.Course.{Course}
 use Rattle.model.specs.Laid.{Lays, Caller, placeOf}
 use Rattle.model.specs.Course.{follows, OfEvent}
 use Rattle.model.proofs.event.advance.Lts as lts
-use Rattle.model.proofs.Laying.{lays-own}
+use Rattle.model.proofs.Laying.{lays-own, Seeking, seeking, seek, sought-among, unsought-among}
 use Rattle.model.proofs.Masks.{settled-as}
 use Rattle.model.proofs.Kept.{keeps, own-pids, taken-pids, reported-pids}
 use Rattle.model.proofs.Locks.{caller-fits}
 use Rattle.model.proofs.Sound.{sound-lays}
-use Rattle.model.proofs.Events.{sound-machine, advanced, lives-here, lives-not, process-here, caller-here, Seeks, seeks-start, seeks-next, seeks-found, seeks-none, kind-range, bad-kind, ticks, no-caller, caller-sleeps, caller-acts}
+use Rattle.model.proofs.Events.{sound-machine, advanced, lives-here, lives-not, process-here, caller-here, kind-range, bad-kind, ticks, no-caller, caller-sleeps, caller-acts}
 
 abbrev Inv-loop : tie.InvT-loop
-Inv-loop e s i₀ i = Seeks s (e .caller) i
+Inv-loop e s i₀ i = Seeking (e .caller) s i
 
 abbrev μ-loop : tie.MeasureT-loop
 μ-loop e s i₀ i = s .live - i
@@ -46,7 +46,7 @@ lays s e g h = sound-lays s h (simp length-map at (g .0 .1 .1 .0 .1 .0 .1)) (sim
 found : (c : tie.Left-loop Inv-loop μ-loop) → let a = c .before .before .before .before .before .args in c .before .loop .i ≡ placeOf (a .e .caller) (take (a .t1 .live) (pids (a .t1 .procs)))
 found c =
     let w = c .before .loop .inv in
-    ⊎-elim (λ v. seeks-found w _ (v .0 .taken) (v .1 .left)) (λ v. seeks-none w (v .left)) (c .loop-test .came)
+    ⊎-elim (λ v. sought-among w _ (v .0 .taken) (eqb-true _ _ (not-false _ (v .1 .left)))) (λ v. unsought-among w (v .left)) (c .loop-test .came)
 
 inside : (c : tie.Else5 Inv-loop μ-loop) → c .before .before .loop .i < c .before .before .before .before .before .before .args .t1 .live
 inside c = let h = c .before .before .loop .inv .inside in let k = c .if5 .left in omega (arith, h, k)
@@ -96,28 +96,28 @@ returns-2 c =
     (c .settle .ensures ∙ settled-as _ done (c .before .pass .ensures) ∙ ticks _ (s .args .e) (kind-range (s .args .e .kind) (c .before .before .before .before .if1 .left) (c .before .before .before .if2 .left)) (eq-eqb _ _ (c .before .before .if3 .taken)))
 
 loop-holds : tie.Need-loop-holds Inv-loop μ-loop
-loop-holds c = let s = c .before .before .before in seeks-start _ (lays _ (s .args .e) (s .good) (s .pre))
+loop-holds c = let s = c .before .before .before in seeking _ (lays _ (s .args .e) (s .good) (s .pre))
 
 mul-if4 : tie.Need-mul-if4 Inv-loop μ-loop
-mul-if4 c = let h = c .before .loop .inv .room in let k = c .loop-test .taken in omega (arith, h, k)
+mul-if4 c = let h = c .before .loop .inv .fits in let k = c .loop-test .taken in omega (arith, h, k)
 
 element-copy-out-if4 : tie.Need-element-copy-out-if4 Inv-loop μ-loop
-element-copy-out-if4 c = let h = c .before .loop .inv .room in let k = c .loop-test .taken in omega (arith, h, k)
+element-copy-out-if4 c = let h = c .before .loop .inv .fits in let k = c .loop-test .taken in omega (arith, h, k)
 
 add-i : tie.Need-add-i Inv-loop μ-loop
-add-i c = let h = c .before .before .loop .inv .room in let k = c .before .loop-test .taken in omega (arith, h, k)
+add-i c = let h = c .before .before .loop .inv .fits in let k = c .before .loop-test .taken in omega (arith, h, k)
 
 loop-less : tie.Need-loop-less Inv-loop μ-loop
 loop-less c = let k = c .before .loop-test .taken in omega (arith, k)
 
 loop-again : tie.Need-loop-again Inv-loop μ-loop
-loop-again c = seeks-next (c .before .before .loop .inv) _ (c .before .loop-test .taken) (c .if4 .taken)
+loop-again c = seek (c .before .before .loop .inv) _ (c .before .loop-test .taken) (eqb-false _ _ (not-true _ (c .if4 .taken)))
 
 mul-if6 : tie.Need-mul-if6 Inv-loop μ-loop
-mul-if6 c = let h = c .before .before .loop .inv .room in let k = inside c in omega (arith, h, k)
+mul-if6 c = let h = c .before .before .loop .inv .fits in let k = inside c in omega (arith, h, k)
 
 element-copy-out-if6 : tie.Need-element-copy-out-if6 Inv-loop μ-loop
-element-copy-out-if6 c = let h = c .before .before .loop .inv .room in let k = inside c in omega (arith, h, k)
+element-copy-out-if6 c = let h = c .before .before .loop .inv .fits in let k = inside c in omega (arith, h, k)
 
 refusal-requires-2 : tie.Need-refusal-requires-2 Inv-loop μ-loop
 refusal-requires-2 c κs = search needs
@@ -141,10 +141,10 @@ returns-3 c =
     (c .before .before .if5 .came))
 
 mul-p : tie.Need-mul-p Inv-loop μ-loop
-mul-p c = let h = c .before .before .before .loop .inv .room in let k = inside (c .before) in omega (arith, h, k)
+mul-p c = let h = c .before .before .before .loop .inv .fits in let k = inside (c .before) in omega (arith, h, k)
 
 element-copy-out-p : tie.Need-element-copy-out-p Inv-loop μ-loop
-element-copy-out-p c = let h = c .before .before .before .loop .inv .room in let k = inside (c .before) in omega (arith, h, k)
+element-copy-out-p c = let h = c .before .before .before .loop .inv .fits in let k = inside (c .before) in omega (arith, h, k)
 
 course-of-requires : tie.Need-course-of-requires Inv-loop μ-loop
 course-of-requires c κs = search needs
