@@ -1,6 +1,6 @@
 -- The masks by comparison of two states, from the last place to the first. Assumes nothing.
 use Prim.Native.Nat.{ℕ, zero, suc, _+_, _-_, _*_, _^_, _≤_, _<_}
-use native.Mathlib.Nat.{not-suc-le-zero, pow-succ', le-of-eq}
+use native.Mathlib.Nat.{not-suc-le-zero, le-of-eq}
 use native.Mathlib.Omega.{arith}
 use mathlib.Core.Path.{_≡_, sym, ap, _∙_}
 use mathlib.Core.Bool.{Bool, true, false, cond, not, _&&_, and-false}
@@ -19,6 +19,7 @@ use Rattle.rules.specs.declared.state.State.{State}
 use Rattle.soundness.proofs.Laws.{take-pids}
 use Rattle.model.specs.Laid.{Lays, placeOf}
 use Rattle.model.proofs.Places.{place-member, place-none, first-found}
+use Rattle.model.proofs.Marks.{mask-lt}
 use Rattle.model.proofs.Laying.{lays-live, lays-fits, lays-long}
 
 -- ---- masks, from the last place to the first
@@ -33,14 +34,6 @@ module _ (f : Process → Bool) (ps : List Process) (n : ℕ) (b : n ≤ length 
 
   mask-end : 0 ≡ mask f (drop n (take n ps))
   mask-end = let h : length (take n ps) ≤ n = le-of-eq (length-take-le n ps b) in ap (mask f) (sym (drop-of-length-le (take n ps) h))
-
-mask-lt : (f : Process → Bool) (xs : List Process) → mask f xs < 2 ^ length xs
-mask-lt f [] = omega arith
-mask-lt f (x ∷ xs) = go (f x) (mask-lt f xs) (pow-succ' 2 (length xs))
-  where
-    go : (b : Bool) → mask f xs < 2 ^ length xs → 2 ^ suc (length xs) ≡ 2 * 2 ^ length xs → cond b 1 0 + 2 * mask f xs < 2 ^ suc (length xs)
-    go true h e = rw e (omega arith)
-    go false h e = rw e (omega arith)
 
 -- one bit more has room
 mask-small : (f : Process → Bool) (ps : List Process) (n i : ℕ) → n ≤ 16 → length ps ≡ 16 → 0 < i → mask f (drop i (take n ps)) < 32768

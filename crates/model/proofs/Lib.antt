@@ -3,6 +3,7 @@ pub mod Laying
 pub mod Sound
 pub mod Masks
 pub mod Kept
+pub mod Marks
 pub mod Comparing
 pub mod Locks
 pub mod Events

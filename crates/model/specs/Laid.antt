@@ -1,7 +1,7 @@
 -- What the private promises say of states: laid out, changed in one place, answered. A reader who believes the promises of `step`, `advance` and `fresh` need not read this. Assumes nothing.
 use Prim.Native.Nat.{ℕ, suc, _≤_, _<_}
 use mathlib.Core.Path.{_≡_}
-use mathlib.Core.Bool.{true, false, cond}
+use mathlib.Core.Bool.{Bool, true, false, cond, not, _&&_}
 use mathlib.Core.List.{List, [], _∷_}
 use lib.ListN.{length, set}
 use lib.Dec.{eqb}
@@ -12,6 +12,7 @@ use Rattle.rules.specs.Sound.{soundMachine}
 use Rattle.rules.specs.Step.{wokenMask, endedMask}
 use Rattle.rules.specs.declared.state.Process.{Process}
 use Rattle.rules.specs.declared.state.State.{State}
+use Rattle.rules.specs.declared.state.Answer.{Answer}
 use Rattle.rules.specs.declared.state.Stepped.{Stepped}
 use Rattle.processes.specs.Told.{answerOf}
 use Rattle.processes.specs.declared.own.Told.{Told}
@@ -51,12 +52,16 @@ refusedBy number s = record { answer = answerOf 3 number 0 0; state = s }
 abbrev pub answeredAs : ℕ → ℕ → State → Stepped
 answeredAs kind d3 t = record { answer = answerOf kind 0 d3 0; state = t }
 
+-- asleep, and awake as f has changed it
+abbrev pub wakesBy : (Process → Process) → Process → Bool
+wakesBy f p = sleeps p && not (sleeps (f p))
+
+abbrev pub masked : ℕ → ℕ → ℕ → Answer
+masked kind woken ended = record { kind = kind; number = 0; woken = woken; ended = ended; d3 = 0; a0 = 0 }
+
 abbrev pub settledAs : State → ℕ → State → Stepped
 settledAs s kind t =
-    record {
-      answer = record { kind = kind; number = 0; woken = wokenMask (view s) (view t); ended = endedMask (view s) (view t); d3 = 0; a0 = 0 };
-      state = t;
-    }
+    record { answer = masked kind (wokenMask (view s) (view t)) (endedMask (view s) (view t)); state = t }
 
 -- refused: the state as it was; else the caller in its place
 abbrev pub kept : State → ℕ → Told → Stepped
