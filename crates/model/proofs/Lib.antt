@@ -4,6 +4,7 @@ pub mod Sound
 pub mod Masks
 pub mod Kept
 pub mod Marks
+pub mod Sweep
 pub mod Comparing
 pub mod Locks
 pub mod Events

@@ -10,7 +10,7 @@ use lib.ListN.{length, take, length-append}
 use lib.Seq.{take-all}
 use lib.Dec.{eqb, leb, ltb}
 use borrow.Author.Tests.{le-leb, lt-leb, le-ltb, leb-true, eq-eqb, ne-eqb, not-false}
-use Rattle.locks.specs.Lists.{between}
+use Rattle.locks.specs.Lists.{between, mask}
 use Rattle.locks.specs.Rows.{rowsOf, laidRows, waits, twin, hasTwin, withoutTwin}
 use Rattle.locks.specs.Chains.{Link, Chain, leadsBack}
 use Rattle.locks.specs.declared.rows.Row.{Row}
@@ -18,16 +18,18 @@ use Rattle.locks.specs.declared.rows.Table.{Table}
 use Rattle.locks.proofs.Tests.{off, and-split, or-off}
 use Rattle.locks.proofs.Fewer.{fewer-keep, fewer-length}
 use Rattle.locks.proofs.Chains.{deadlock-exact}
-use Rattle.rules.specs.State.{view, laid, forLock, put, rowsLeft, asleepFor}
-use Rattle.rules.specs.Outcome.{done, nowAsleep}
+use Rattle.rules.specs.State.{view, laid, forLock, put, granted, rowsLeft, asleepFor}
+use Rattle.rules.specs.Outcome.{done, nowAsleep, answered}
 use Rattle.rules.specs.Calls.{badSequence, asksShared, conditional, rowOf, appended, queued, lockRow, doLock, unlockRow, doUnlock}
 use Rattle.rules.specs.Step.{settled}
 use Rattle.rules.specs.declared.state.Process.{Process}
 use Rattle.rules.specs.declared.state.State.{State}
 use Rattle.rules.specs.declared.state.Event.{Event}
-use Rattle.model.specs.Laid.{Lays, Tidy, Caller, stored, refusedBy, answeredAs, settledAs}
+use Rattle.rules.specs.declared.state.Stepped.{Stepped}
+use Rattle.rules.proofs.Frame.{Ok}
+use Rattle.model.specs.Laid.{Lays, Tidy, Caller, stored, refusedBy, answeredAs, wakesBy, masked}
 use Rattle.model.proofs.Laying.{lays-table, table-rows, tidy, lays-put}
-use Rattle.model.proofs.Masks.{same-masks, put-masks, settled-as, settled-quiet}
+use Rattle.model.proofs.Masks.{same-masks, put-masks, settled-quiet, left-settled}
 use Rattle.model.proofs.Kept.{caller-ok}
 
 -- ---- the sequence
@@ -168,10 +170,11 @@ module _ {s : State} {t : Table} (r : Row) (l : Lays s (view s)) (e : t ≡ laid
       let rows = rowsOf (s .table) in
       tidy (withoutTwin r rows) e (le-trans (fewer-length (fewer-keep (λ q. not (twin r q)) rows)) (l .used))
 
-  pub unlock-done : {u : State} → hasTwin r (rowsOf (s .table)) ≡ true → Lays u (rowsLeft (rowsOf t) (view s)) → settledAs s 0 u ≡ settled s (unlockRow r (view s))
+  pub unlock-done : {x : Stepped} → Ok (view s) → hasTwin r (rowsOf (s .table)) ≡ true
+      → Lays (x .state) (rowsLeft (rowsOf t) (view s)) × (x .answer ≡ masked 0 (mask (wakesBy (granted (rowsOf t))) (view s .procs)) 0) → x ≡ settled s (unlockRow r (view s))
   unfolding unlockRow settled view
-  unlock-done {u} h k =
-      rw h (settled-as s done (rw (table-rows (withoutTwin r (rowsOf (s .table))) e) at k))
+  unlock-done o h k =
+      rw h (left-settled s (rowsOf t) o k ∙ ap (λ (rs : List Row). settled s (answered done 0 0 (rowsLeft rs (view s)))) (table-rows (withoutTwin r (rowsOf (s .table))) e))
 
 pub unlock-none : (s : State) (r : Row) → hasTwin r (rowsOf (s .table)) ≡ false → refusedBy 14 s ≡ settled s (unlockRow r (view s))
 unfolding unlockRow settled view

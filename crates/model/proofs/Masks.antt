@@ -9,15 +9,18 @@ use borrow.Author.Tests.{eqb-true, eqb-false, eq-eqb, ne-eqb}
 use Rattle.locks.specs.Lists.{mask, member}
 use Rattle.locks.proofs.Tests.{cases, and-split, or-left, or-right}
 use Rattle.locks.proofs.Lists.{any-append}
-use Rattle.rules.specs.State.{Machine, view, has, pids, sleeps, lives, firstOf, processOf, inPlace}
-use Rattle.rules.specs.Outcome.{Kind, kindOf, answered}
+use Rattle.locks.specs.declared.rows.Row.{Row}
+use Rattle.rules.specs.State.{Machine, view, has, pids, sleeps, lives, firstOf, processOf, inPlace, granted, rowsLeft}
+use Rattle.rules.specs.Outcome.{Kind, kindOf, done, answered}
 use Rattle.rules.specs.Calls.{born}
 use Rattle.rules.specs.Sound.{ascend}
 use Rattle.rules.specs.Step.{wokenMask, endedMask, settled}
 use Rattle.rules.specs.declared.state.Process.{Process}
 use Rattle.rules.specs.declared.state.State.{State}
 use Rattle.rules.proofs.Frame.{Ok, fit-ascend, below-first, pids-put, first-pid, pids-map}
+use Rattle.rules.specs.declared.state.Stepped.{Stepped}
 use Rattle.rules.proofs.States.{view-laid}
+use Rattle.rules.proofs.Rows.{granted-pid}
 use Rattle.processes.specs.Told.{answerOf}
 use Rattle.model.specs.Laid.{Lays, wakesBy, masked, settledAs}
 
@@ -111,8 +114,10 @@ map-masks f k m after o e = (
   where
     up : ascend 1 (pids (m .procs)) (m .next) ≡ true
     up = fit-ascend (pids (m .procs)) (m .next) (o .frame .fit)
+
     live : (n : ℕ) → member n (pids (m .procs)) ≡ true → member (firstOf n (m .procs) .pid) (pids (after .procs)) ≡ true
     live n l = ap (λ (j : ℕ). member j (pids (after .procs))) (first-pid n (m .procs) l) ∙ rw (e, pids-map f k (m .procs)) l
+
     here : (n : ℕ) → member n (pids (m .procs)) ≡ true → firstOf (firstOf n (m .procs) .pid) (after .procs) ≡ f (firstOf n (m .procs))
     here n l = ap (λ (j : ℕ). firstOf j (after .procs)) (first-pid n (m .procs) l) ∙ rw e (first-map f k n (m .procs) l)
 
@@ -129,3 +134,10 @@ settled-as s k l = rw (l .is, view-laid)
 pub settled-masked : (s : State) {t : State} {m : Machine} (k : Kind) {w e : ℕ} → Lays t m → (w ≡ wokenMask (view s) m) × (e ≡ endedMask (view s) m) → record { answer = masked (kindOf k) w e; state = t } ≡ settled s (answered k 0 0 m)
 unfolding settled
 settled-masked s k l h = rw (h .0, h .1, l .is)
+
+-- rows go and nothing else
+pub left-settled : (s : State) {x : Stepped} (rows : List Row) → Ok (view s) → Lays (x .state) (rowsLeft rows (view s)) × (x .answer ≡ masked 0 (mask (wakesBy (granted rows)) (view s .procs)) 0)
+    → x ≡ settled s (answered done 0 0 (rowsLeft rows (view s)))
+unfolding rowsLeft
+left-settled s {x} rows o h =
+    (λ j. record { answer = h .1 j; state = x .state }) ∙ settled-masked s done (h .0) (map-masks (granted rows) (granted-pid rows) (view s) (rowsLeft rows (view s)) o refl)

@@ -7,7 +7,7 @@ ghost use mathlib.Core.Bool.{cond};
 ghost use Prim.Native.Nat.{_+_, _*_, _<_};
 ghost use Rattle.rules.specs.State.{view};
 ghost use Rattle.processes.specs.Told.{answerOf};
-ghost use Rattle.model.specs.Laid.{Lays, settledAs};
+ghost use Rattle.model.specs.Laid.{Lays, masked, settledAs};
 
 fn shifted(m: u16, b: bool) -> u16
     requires { ⌜ m < 32768 ⌝ }
@@ -43,6 +43,19 @@ pub(crate) fn plain(kind: u8, d3: u32) -> Answer
     }
 }
 
+pub(crate) fn with_masks(kind: u8, woken: u16, ended: u16) -> Answer
+    ensures { λ r. ⌜ r ≡ masked kind woken ended ⌝ }
+{
+    Answer {
+        kind: kind,
+        number: 0,
+        woken: woken,
+        ended: ended,
+        d3: 0,
+        a0: 0,
+    }
+}
+
 // Mask bit i is the process at place i before the event.
 pub(crate) fn settle(s: State, t: State, kind: u8) -> Stepped
     requires { ⌜ Lays s (view s) × Lays t (view t) ⌝ }
@@ -62,16 +75,8 @@ pub(crate) fn settle(s: State, t: State, kind: u8) -> Stepped
         woken = shifted(woken, up);
         ended = shifted(ended, j == t.live);
     }
-    let answer = Answer {
-        kind: kind,
-        number: 0,
-        woken: woken,
-        ended: ended,
-        d3: 0,
-        a0: 0,
-    };
     Stepped {
-        answer: answer,
+        answer: with_masks(kind, woken, ended),
         state: t,
     }
 }

@@ -133,7 +133,7 @@ pub fn advance(s: State, e: Event) -> Stepped
         },
         Course::Own(o) => keep(s, i, own_call(o, p, e)),
         Course::Lock => lock(s, i, p, e),
-        Course::Unlock => unlock(s, p, e),
+        Course::Unlock => unlock(s, i, p, e),
         Course::Kill => kill(s, p, e),
         Course::Exit => exit(s, p),
         Course::FShell => fshell(s, i, p, e),

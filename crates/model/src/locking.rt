@@ -122,8 +122,8 @@ pub(crate) fn lock(s: State, i: usize, p: Process, e: Event) -> Stepped
     lock_row(s, i, p, e, r)
 }
 
-pub(crate) fn unlock(s: State, p: Process, e: Event) -> Stepped
-    requires { ⌜ Lays s (view s) ⌝ }
+pub(crate) fn unlock(s: State, i: usize, p: Process, e: Event) -> Stepped
+    requires { ⌜ Caller s i p ⌝ }
     ensures { λ x. ⌜ x ≡ settled s (doUnlock p e (view s)) ⌝ }
 {
     if bad_sequence(e) {
@@ -140,5 +140,5 @@ pub(crate) fn unlock(s: State, p: Process, e: Event) -> Stepped
         };
     }
     let t = without_twin(s.table, r);
-    settle(s, rows_left(s, t), 0)
+    rows_left(s, t)
 }

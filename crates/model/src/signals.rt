@@ -37,8 +37,8 @@ pub(crate) fn end_process(s: State, pid: u16) -> State
     ensures { λ r. ⌜ Lays r (ends pid (view s)) ⌝ }
 {
     let t = without_owner(s.table, pid);
-    let u = rows_left(s, t);
-    leave(u, pid)
+    let r = rows_left(s, t);
+    leave(r.state, pid)
 }
 
 fn rouse(p: Process) -> Process
@@ -70,7 +70,8 @@ fn trap_at(s: State, signal: usize, a: u32, pid: u16, p: Process) -> State
     ensures { λ r. ⌜ Lays r (rowsLeft (withoutWaiting pid (view s .rows)) (put (trapped signal a p) (view s))) ⌝ }
 {
     let t = replace(s, trap(p, signal, a));
-    rows_left(t, without_waiting(s.table, pid))
+    let r = rows_left(t, without_waiting(s.table, pid));
+    r.state
 }
 
 // The signal arrives at the process of that PID.

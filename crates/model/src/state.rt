@@ -1,4 +1,5 @@
 // States and their parts: made, looked up, changed.
+use crate::answers::*;
 use locks::rows::*;
 use processes::*;
 use rules::state::*;
@@ -6,8 +7,9 @@ ghost use mathlib.Core.Path.{_≡_};
 ghost use lib.ListN.{take};
 ghost use Prim.Native.Nat.{_≤_};
 ghost use Rattle.locks.specs.Rows.{rowsOf};
-ghost use Rattle.rules.specs.State.{view, laid, fresh, processOf, put, rowsLeft};
-ghost use Rattle.model.specs.Laid.{Lays, Tidy, placeOf};
+ghost use Rattle.locks.specs.Lists.{mask};
+ghost use Rattle.rules.specs.State.{view, laid, fresh, processOf, put, granted, rowsLeft};
+ghost use Rattle.model.specs.Laid.{Lays, Tidy, placeOf, wakesBy, masked};
 
 pub fn fresh() -> State
     ensures { λ r. ⌜ r ≡ laid fresh ⌝ }
@@ -70,22 +72,28 @@ pub(crate) fn replace(s: State, q: Process) -> State
     t
 }
 
-// The rows of t are left: a lock sleeper none of whose rows waits wakes.
-pub(crate) fn rows_left(s: State, t: Table) -> State
+// The rows of t are left: a lock sleeper none of whose rows waits wakes. The answer has the woken mask.
+pub(crate) fn rows_left(mut s: State, t: Table) -> Stepped
     requires { ⌜ Lays s (view s) × Tidy t ⌝ }
-    ensures { λ r. ⌜ Lays r (rowsLeft (rowsOf t) (view s)) ⌝ }
+    ensures { λ r. ⌜ Lays (r .state) (rowsLeft (rowsOf t) (view s)) × (r .answer ≡ masked 0 (mask (wakesBy (granted (rowsOf t))) (view s .procs)) 0) ⌝ }
 {
-    let mut u = s;
-    u.table = t;
+    s.table = t;
+    let mut woken: u32 = 0;
+    let mut bit: u32 = 1;
     let mut i: usize = 0;
     while i < s.live {
         if s.procs[i].rest.sleep == 2 {
             let p = s.procs[i];
             if waiting_of(t, p.pid) == 0 {
-                u.procs[i] = woken_by(p, 1, 0);
+                s.procs[i] = woken_by(p, 1, 0);
+                woken += bit;
             }
         }
+        bit *= 2;
         i += 1;
     }
-    u
+    Stepped {
+        answer: with_masks(0, woken as u16, 0),
+        state: s,
+    }
 }

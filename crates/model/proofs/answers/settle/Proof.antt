@@ -65,8 +65,11 @@ loop-again c = let s = c .before .before .before .before .before in
     (⊎-elim (λ w. wakes-found l p n h _ (w .0 .taken) (w .1 .taken) (w .2)) (⊎-elim (λ w. wakes-awake l p n h (w .1 .left) (w .2)) (λ w. wakes-absent l p n h (w .0 .left) (w .1))) (c .before .before .if1 .came))
     (ends-place l p n h)
 
+with-masks-requires : tie.Need-with-masks-requires Inv-loop μ-loop
+with-masks-requires c κs = search needs
+
 returns : tie.Need-returns Inv-loop μ-loop
-returns c = let m = compared (c .before .loop .inv) (c .loop-test .left) in rw (← m .0, ← m .1)
+returns c = let m = compared (c .before .before .loop .inv) (c .before .loop-test .left) in rw (c .with-masks .ensures, ← m .0, ← m .1)
 
 pub settle-spec : {M : Type 1} → statement M
 settle-spec =
@@ -88,4 +91,5 @@ settle-spec =
     shifted-requires-2
     loop-less
     loop-again
+    with-masks-requires
     returns)

@@ -174,7 +174,7 @@ enum-told-2 : tie.Need-enum-told-2 Inv-loop μ-loop
 enum-told-2 c = search needs
 
 unlock-requires : tie.Need-unlock-requires Inv-loop μ-loop
-unlock-requires c κs = c .before .before .before .before .before .before .before .loop .inv .lays
+unlock-requires c κs = caller (c .before .before .before .before) _ (c .before .before .before .before .if6 .left)
 
 enum-told-3 : tie.Need-enum-told-3 Inv-loop μ-loop
 enum-told-3 c = search needs

@@ -4,7 +4,7 @@ use Rattle.model.proofs.locking.unlock.Statement.{statement}
 use Rattle.model.proofs.locking.unlock.Tie as tie
 use mathlib.Core.Path.{sym, _∙_}
 use borrow.Author.Tests.{not-true, not-false}
-use Rattle.model.proofs.Laying.{lays-own}
+use Rattle.model.proofs.Kept.{caller-ok}
 use Rattle.model.proofs.Locks.{unlock-bad, unlock-on, unlock-tidy, unlock-none, unlock-done}
 
 bad-sequence-requires : tie.Need-bad-sequence-requires
@@ -38,17 +38,14 @@ without-twin-requires c κs = search needs
 
 rows-left-requires : tie.Need-rows-left-requires
 rows-left-requires c κs = let s = c .before .before .before in
-    let l = s .before .before .before .pre in
+    let l = s .before .before .before .pre .lays in
     (l, unlock-tidy (s .row-of .result) l (c .without-twin .ensures))
 
-settle-requires : tie.Need-settle-requires
-settle-requires c κs = (c .before .before .before .before .before .before .before .pre, lays-own (c .rows-left .ensures))
-
 returns-3 : tie.Need-returns-3
-returns-3 c = let s = c .before .before .before .before .before in
+returns-3 c = let s = c .before .before .before .before in
     let a = s .before .before .before .args in
-    c .settle .ensures
-    ∙ unlock-done (s .row-of .result) (s .before .before .before .pre) (c .before .before .without-twin .ensures) (sym (c .before .before .before .before .has-twin .ensures) ∙ not-false _ (c .before .before .before .if2 .left)) (c .before .rows-left .ensures)
+    let k = s .before .before .before .pre in
+    unlock-done (s .row-of .result) (k .lays) (c .before .without-twin .ensures) (caller-ok k) (sym (c .before .before .before .has-twin .ensures) ∙ not-false _ (c .before .before .if2 .left)) (c .rows-left .ensures)
     ∙ unlock-on (a .s) (a .p) (a .e) (sym (s .before .before .bad-sequence .ensures) ∙ s .before .if1 .left) (s .row-of .ensures)
 
 pub unlock-spec : {M : Type 1} → statement M
@@ -64,5 +61,4 @@ unlock-spec =
     returns-2
     without-twin-requires
     rows-left-requires
-    settle-requires
     returns-3)

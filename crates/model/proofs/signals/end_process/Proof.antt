@@ -20,11 +20,11 @@ unfolding withoutOwner
 rows-left-requires c κs = fewer-tidy _ (c .before .pre) (c .without-owner .ensures) (fewer-keep _ _)
 
 leave-requires : tie.Need-leave-requires
-leave-requires c κs = lays-own (c .rows-left .ensures)
+leave-requires c κs = lays-own (c .rows-left .ensures .0)
 
 returns : tie.Need-returns
 unfolding ends view
-returns c = then (left-rows _ _ (c .before .before .without-owner .ensures) (c .before .rows-left .ensures)) (gone _) (c .leave .ensures)
+returns c = then (left-rows _ _ (c .before .before .without-owner .ensures) (c .before .rows-left .ensures .0)) (gone _) (c .leave .ensures)
 
 pub end-process-spec : {M : Type 1} → statement M
 end-process-spec =

@@ -25,8 +25,9 @@ rows-left-requires c κs = (lays-own (c .before .replace .ensures), fewer-tidy _
 
 returns : tie.Need-returns
 unfolding view
-returns c = rw (← c .before .before .before .trap .ensures)
-    (then (c .before .before .replace .ensures) (rowsLeft (withoutWaiting (c .before .before .before .before .args .pid) _)) (left-rows _ _ (c .before .without-waiting .ensures) (c .rows-left .ensures)))
+returns c = let o = c .before in
+    rw (← o .before .before .before .trap .ensures)
+    (then (o .before .before .replace .ensures) (rowsLeft (withoutWaiting (o .before .before .before .before .args .pid) _)) (left-rows _ _ (o .before .without-waiting .ensures) (o .rows-left .ensures .0)))
 
 pub trap-at-spec : {M : Type 1} → statement M
 trap-at-spec =
