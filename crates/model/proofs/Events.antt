@@ -5,8 +5,9 @@ use mathlib.Core.Path.{_≡_, refl, sym, ap, _∙_}
 use mathlib.Core.Bool.{Bool, true, false, cond, not, _&&_, _||_, and-eq-true-iff}
 use mathlib.Core.List.{List, [], _∷_, _++_}
 use lib.ListN.{length, getD, take, set, length-map, length-append}
+use lib.Seq.{set-comm}
 use lib.Dec.{eqb, ltb}
-use borrow.Author.Tests.{lt-ltb, le-ltb, le-leb, eq-eqb, ne-eqb, ltb-false, not-true, not-false}
+use borrow.Author.Tests.{lt-ltb, le-ltb, le-leb, leb-true, eq-eqb, ne-eqb, ltb-false, not-true, not-false}
 use Rattle.locks.specs.Lists.{between, padded}
 use Rattle.locks.proofs.Tests.{cases, or-left, or-right}
 use Rattle.locks.proofs.Loops.{padded-more}
@@ -25,17 +26,26 @@ use Rattle.rules.specs.declared.calls.Class.{Class}
 use Rattle.rules.proofs.Frame.{fit-next, live-pid}
 use Rattle.rules.proofs.States.{sound-stays}
 use Rattle.soundness.proofs.Laws.{take-pids}
-use Rattle.model.specs.Laid.{Lays, Caller, placeOf, refusedBy, answeredAs}
+use Rattle.processes.specs.Told.{answerOf, toldNo}
+use Rattle.model.specs.declared.children.Born.{Born}
+use Rattle.model.specs.Laid.{Lays, Caller, placeOf, refusedBy, bornWith, BornAs}
+use Rattle.model.specs.declared.event.Course.{Course}
+use Rattle.model.specs.Course.{follows, OfEvent}
 use Rattle.model.proofs.Places.{place-member, first-found}
 use Rattle.model.proofs.Laying.{lays-live, lays-fits, lays-long, lays-table, lays-view}
 use Rattle.model.proofs.Masks.{born-masks, settled-quiet}
-use Rattle.model.proofs.Kept.{caller-ok}
+use Rattle.model.proofs.Kept.{caller-ok, caller-back}
 
 -- ---- a sound state
 
 pub sound-machine : (s : State) → sound s ≡ true → soundMachine (view s) ≡ true
 unfolding sound
 sound-machine s h = (simp and-eq-true-iff at h) .1
+
+-- somebody lives
+pub some-live : (s : State) → sound s ≡ true → 0 < s .live
+unfolding sound
+some-live s h = let k = leb-true 1 (s .live) ((simp and-eq-true-iff at h) .0 .0 .0 .0 .0) in omega (arith, k)
 
 -- the step of a sound state
 pub advanced : (s : State) (e : Event) {r : Stepped} → sound s ≡ true → r ≡ settled s (outcome e (view s)) → (r ≡ stepOf s e) × (sound (r .state) ≡ true)
@@ -122,6 +132,9 @@ module _ (s : State) (e : Event) where
       unfolding outcome settled
       caller-acts h q a = rw (k, t, h, ← q, a) refl
 
+pub kind-two : (s : State) (e : Event) → e .kind ≡ 2 → settled s (answered done 0 0 (ticked (view s))) ≡ settled s (outcome e (view s))
+kind-two s e h = ticks s e (ap (between 1 4) h) (eq-eqb (e .kind) 2 h)
+
 -- ---- what a live process that is awake may do
 
 module _ (s : State) (p : Process) (e : Event) where
@@ -140,6 +153,20 @@ module _ (s : State) (p : Process) (e : Event) where
   pub calls : e .kind ≡ 1 → p .signals .pending ≡ 0 → settled s (called p e (view s)) ≡ settled s (ofCaller p e (view s))
   unfolding ofCaller settled
   calls h k = rw (eq-eqb (e .kind) 1 h, eq-eqb (p .signals .pending) 0 k) refl
+
+-- the course of a live process that is awake
+pub calling : (p : Process) (e : Event) {x : Course} → 1 ≤ e .kind → ltb 4 (e .kind) ≡ false → p .pid ≡ e .caller → p .rest .sleep ≡ 0
+    → ((s : State) → (e .kind ≡ 2 → ⊥) → follows s p e x ≡ settled s (ofCaller p e (view s))) → OfEvent p e x
+calling p e a b c d h =
+    let awake : sleeps p ≡ false = rw (eq-eqb (p .rest .sleep) 0 d) in
+    record {
+      caller = λ _. (c, awake);
+      is = λ s n u v. let k = v c in h s n ∙ caller-acts s e (kind-range (e .kind) a b) (ne-eqb (e .kind) 2 n) (k .0) (k .1) awake;
+    }
+
+-- neither a tick, nor a take, nor a report
+pub is-call : (k : ℕ) → 1 ≤ k → ltb 4 k ≡ false → (k ≡ 2 → ⊥) → (k ≡ 3 → ⊥) → (k ≡ 4 → ⊥) → k ≡ 1
+is-call k a b c d e = let h = ltb-false 4 k b in omega (arith, a, h, c, d, e)
 
 -- ---- the number of a call
 
@@ -170,7 +197,7 @@ unfolding view
 next-fits c = fit-next _ _ (caller-ok c .frame .fit) .1
 
 -- the child behind the live
-abbrev pub bornIn : Process → State → State
+abbrev bornIn : Process → State → State
 bornIn c s = record { procs = set (s .procs) (s .live) c; live = s .live + 1; table = s .table; next = s .next + 1 }
 
 lays-born : {s : State} (c : Process) → Lays s (view s) → s .live < 16 → Lays (bornIn c s) (born c (view s))
@@ -185,25 +212,54 @@ lays-born {s} c l h =
       used = l .used;
     }
 
-module _ {s : State} {i : ℕ} {p : Process} (c : Caller s i p) (e : Event) where
-  pub born-no : (ltb 255 (e .d1) || ltb 255 (e .d2)) ≡ true → refusedBy 5 s ≡ settled s (doFShell p e (view s))
+module _ {live next i : ℕ} {p : Process} (e : Event) {x : Born} where
+  -- refused: nothing moves
+  born-refused : (n : ℕ) → x ≡ record { told = toldNo n p; child = p; at = i; live = live; next = next }
+      → ((s : State) → Caller s i p → s .live ≡ live → s .next ≡ next → refusedBy n s ≡ settled s (doFShell p e (view s))) → BornAs live next i p e x
+  born-refused n q h s c a b =
+      ap (bornWith s i) q
+      ∙ (λ j. record { answer = answerOf 3 n 0 0; state = record { procs = set (caller-back c j) i p; live = sym a j; table = s .table; next = sym b j } })
+      ∙ (λ j. record { answer = answerOf 3 n 0 0; state = record { procs = caller-back c j; live = s .live; table = s .table; next = s .next } })
+      ∙ h s c a b
+
+  pub born-no : (ltb 255 (e .d1) || ltb 255 (e .d2)) ≡ true → x ≡ record { told = toldNo 5 p; child = p; at = i; live = live; next = next } → BornAs live next i p e x
   unfolding doFShell settled
-  born-no h = rw h
+  born-no h q = born-refused 5 q (λ s c a b. rw h refl)
 
   module _ (h : (ltb 255 (e .d1) || ltb 255 (e .d2)) ≡ false) where
-    pub born-full : (eqb (s .live) 16 || eqb (s .next) 65536) ≡ true → refusedBy 9 s ≡ settled s (doFShell p e (view s))
+    pub born-full : (eqb live 16 || eqb next 65536) ≡ true → x ≡ record { told = toldNo 9 p; child = p; at = i; live = live; next = next } → BornAs live next i p e x
     unfolding doFShell settled view
-    born-full f =
-        let g : (eqb (length (view s .procs)) 16 || eqb (s .next) 65536) ≡ true = rw (← lays-live (c .lays)) f in
-        rw (h, g)
+    born-full f q =
+        born-refused 9 q
+        (λ s c a b.
+        let g : (eqb (length (view s .procs)) 16 || eqb (s .next) 65536) ≡ true = rw (← lays-live (c .lays), a, b) f in
+        rw (h, g) refl)
 
-    pub born-last : (s .live ≡ 16 → ⊥) → (s .next ≡ 65536 → ⊥) → answeredAs 0 (s .next) (bornIn (child p e (s .next)) s) ≡ settled s (doFShell p e (view s))
+    pub born-last : (live ≡ 16 → ⊥) → live ≤ 16 → (next ≡ 65536 → ⊥)
+        → x ≡ record { told = record { answer = answerOf 0 0 next 0; process = p }; child = child p e next; at = live; live = live + 1; next = next + 1 } → BornAs live next i p e x
     unfolding doFShell settled view
-    born-last a b =
+    born-last a k b q s c u v =
         let l = lays-live (c .lays) in
-        let k = lays-fits (c .lays) in
-        rw (h, ne-eqb (length (view s .procs)) 16 (λ (q : length (view s .procs) ≡ 16). a (l ∙ q)), ne-eqb (s .next) 65536 b)
-        (settled-quiet s done (s .next) 0 (lays-born (child p e (s .next)) (c .lays) (omega arith)) (born-masks (child p e (s .next)) (view s) (caller-ok c)))
+        let r : s .live < 16 = omega (arith, a, k, u) in
+        let o : i < s .live = omega (arith, l, c .stands) in
+        let g : (eqb (length (view s .procs)) 16 || eqb (s .next) 65536) ≡ false =
+        rw (ne-eqb (length (view s .procs)) 16 (λ (z : length (view s .procs) ≡ 16). a (sym u ∙ l ∙ z)), ne-eqb (s .next) 65536 (λ (z : s .next ≡ 65536). b (sym v ∙ z))) in
+        ap (bornWith s i) q
+        ∙ (λ j. record {
+          answer = answerOf 0 0 (sym v j) 0;
+          state = record { procs = set (set (s .procs) (sym u j) (child p e (sym v j))) i p; live = sym u j + 1; table = s .table; next = sym v j + 1 };
+        })
+        ∙ (λ j. record {
+          answer = answerOf 0 0 (s .next) 0;
+          state = record {
+            procs = (set-comm (s .procs) (s .live) i (child p e (s .next)) p (λ (z : s .live ≡ i). omega arith) ∙ ap (λ (ps : List Process). set ps (s .live) (child p e (s .next))) (caller-back c)) j;
+            live = s .live + 1;
+            table = s .table;
+            next = s .next + 1;
+          };
+        })
+        ∙ rw (h, g)
+        (settled-quiet s done (s .next) 0 (lays-born (child p e (s .next)) (c .lays) r) (born-masks (child p e (s .next)) (view s) (caller-ok c)))
 
 -- ---- kill
 

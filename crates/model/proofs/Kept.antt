@@ -1,11 +1,12 @@
 -- A call that touches its caller alone: the caller as it is after, in its place. Assumes nothing.
-use Prim.Native.Nat.{ℕ}
-use mathlib.Core.Path.{_≡_, refl}
+use Prim.Native.Nat.{ℕ, _<_}
+use native.Mathlib.Omega.{arith}
+use mathlib.Core.Path.{_≡_, refl, sym, ap, _∙_}
 use mathlib.Core.Bool.{true, false, and-eq-true-iff}
-use lib.ListN.{length-map}
-use lib.Dec.{eqb}
-use Rattle.rules.specs.State.{view, put}
-use Rattle.rules.specs.Outcome.{Kind, kindOf, done, nowAsleep, callerEnded, Outcome, refused, answered, when, either, own}
+use lib.ListN.{length-map, getD, set}
+use lib.Seq.{set-getD}
+use Rattle.rules.specs.State.{view, processOf, put}
+use Rattle.rules.specs.Outcome.{refusal, Outcome, refused, answered, when, either, own}
 use Rattle.rules.specs.Signals.{takes, taken}
 use Rattle.rules.specs.Calls.{getId, setId, setPrior, setSignal, doSleep, ownCall}
 use Rattle.rules.specs.Sound.{soundMachine}
@@ -19,7 +20,8 @@ use Rattle.rules.proofs.Walk.{Leaves}
 use Rattle.rules.proofs.Frame.{Ok}
 use Rattle.processes.specs.Told.{told}
 use Rattle.model.specs.Laid.{Caller, kept}
-use Rattle.model.proofs.Laying.{lays-put}
+use Rattle.model.proofs.Places.{first-found}
+use Rattle.model.proofs.Laying.{lays-live, lays-fits, lays-long, lays-put}
 use Rattle.model.proofs.Masks.{put-masks, settled-quiet}
 
 -- ---- its PID stays
@@ -57,19 +59,22 @@ caller-ok c =
       procs = k .1;
     }
 
-no-refusal : (k : Kind) → eqb (kindOf k) 3 ≡ false
-no-refusal done = refl
-no-refusal nowAsleep = refl
-no-refusal callerEnded = refl
+-- the caller put back as it is
+pub caller-back : {s : State} {i : ℕ} {p : Process} → Caller s i p → set (s .procs) i p ≡ s .procs
+unfolding view processOf
+caller-back {s} {i} {p} c =
+    let l = c .lays in
+    let b : i < s .live = omega (arith, c .stands, lays-live l) in
+    let h : getD (s .procs) i p ≡ p = first-found (p .pid) (s .procs) (s .live) i p (omega (arith, lays-fits l, lays-long l)) (c .place) b ∙ sym (c .is) in
+    ap (set (s .procs) i) (sym h) ∙ set-getD (s .procs) i p
 
 pub keeps : {s : State} {i : ℕ} {p : Process} → Caller s i p → (o : Outcome Process) → Leaves (λ q. q .pid ≡ p .pid) o → kept s i (told p o) ≡ settled s (own (view s) o)
 unfolding settled put
-keeps c (refused r) g = refl
+keeps {s} c (refused r) g = λ j. record { answer = refusal r; state = record { procs = caller-back c j; live = s .live; table = s .table; next = s .next } }
 keeps {s} {i} {p} c (answered k d3 a0 q) g =
-    rw (no-refusal k)
-    (settled-quiet s k d3 a0 (lays-put q (c .lays) (rw g (c .place)) (c .stands))
-    (put-masks (view s) (put q (view s)) (caller-ok c) q refl (rw (g, ← c .is) (c .awake))))
-keeps c (when true r o) g = refl
+    settled-quiet s k d3 a0 (lays-put q (c .lays) (rw g (c .place)) (c .stands))
+    (put-masks (view s) (put q (view s)) (caller-ok c) q refl (rw (g, ← c .is) (c .awake)))
+keeps {s} c (when true r o) g = λ j. record { answer = refusal r; state = record { procs = caller-back c j; live = s .live; table = s .table; next = s .next } }
 keeps c (when false r o) g = keeps c o (g refl)
 keeps c (either true x y) g = keeps c x (g .0 refl)
 keeps c (either false x y) g = keeps c y (g .1 refl)

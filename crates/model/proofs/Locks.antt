@@ -1,25 +1,25 @@
 -- Lock and unlock: the row asked for, one row more, rows that go. Assumes nothing.
-use Prim.Native.Nat.{ℕ, _≤_, _<_}
+use Prim.Native.Nat.{ℕ, _+_, _≤_, _<_}
 use native.Mathlib.Nat.{le-trans}
 use native.Mathlib.Omega.{arith}
 use mathlib.Core.Path.{_≡_, refl, sym, ap, _∙_}
 use mathlib.Core.Bool.{Bool, true, false, not, _&&_, _||_, and-false, true≢false}
 use mathlib.Core.Logic.{_↔_}
 use mathlib.Core.List.{List, [], _∷_, _++_}
-use lib.ListN.{length, take, length-append}
-use lib.Seq.{take-all}
+use lib.ListN.{length, set, length-append}
 use lib.Dec.{eqb, leb, ltb}
 use borrow.Author.Tests.{le-leb, lt-leb, le-ltb, leb-true, eq-eqb, ne-eqb, not-false}
-use Rattle.locks.specs.Lists.{between, mask}
-use Rattle.locks.specs.Rows.{rowsOf, laidRows, waits, twin, hasTwin, withoutTwin}
+use Rattle.locks.specs.Lists.{padded, between, mask}
+use Rattle.locks.specs.Rows.{noRow, rowsOf, laidRows, waits, twin, hasTwin, withoutTwin}
 use Rattle.locks.specs.Chains.{Link, Chain, leadsBack}
 use Rattle.locks.specs.declared.rows.Row.{Row}
 use Rattle.locks.specs.declared.rows.Table.{Table}
 use Rattle.locks.proofs.Tests.{off, and-split, or-off}
 use Rattle.locks.proofs.Fewer.{fewer-keep, fewer-length}
+use Rattle.locks.proofs.Loops.{padded-more}
 use Rattle.locks.proofs.Chains.{deadlock-exact}
-use Rattle.rules.specs.State.{view, laid, forLock, put, granted, rowsLeft, asleepFor}
-use Rattle.rules.specs.Outcome.{done, nowAsleep, answered}
+use Rattle.rules.specs.State.{Machine, view, laid, forLock, put, granted, rowsLeft, asleepFor}
+use Rattle.rules.specs.Outcome.{done, nowAsleep, Outcome, answered}
 use Rattle.rules.specs.Calls.{badSequence, asksShared, conditional, rowOf, appended, queued, lockRow, doLock, unlockRow, doUnlock}
 use Rattle.rules.specs.Step.{settled}
 use Rattle.rules.specs.declared.state.Process.{Process}
@@ -27,10 +27,13 @@ use Rattle.rules.specs.declared.state.State.{State}
 use Rattle.rules.specs.declared.state.Event.{Event}
 use Rattle.rules.specs.declared.state.Stepped.{Stepped}
 use Rattle.rules.proofs.Frame.{Ok}
-use Rattle.model.specs.Laid.{Lays, Tidy, Caller, stored, refusedBy, answeredAs, wakesBy, masked}
+use Rattle.processes.specs.Told.{answerOf, toldNo}
+use Rattle.model.specs.declared.locking.Locked.{Locked}
+use Rattle.model.specs.Laid.{Lays, Tidy, Caller, refusedBy, wakesBy, masked, keptWith, LockedAs, queuedOrFull}
 use Rattle.model.proofs.Laying.{lays-table, table-rows, tidy, lays-put}
 use Rattle.model.proofs.Masks.{same-masks, put-masks, settled-quiet, left-settled}
-use Rattle.model.proofs.Kept.{caller-ok}
+use Rattle.model.proofs.Sweep.{tabled}
+use Rattle.model.proofs.Kept.{caller-ok, caller-back}
 
 -- ---- the sequence
 
@@ -55,38 +58,84 @@ used-rows : {s : State} → Lays s (view s) → s .table .used ≡ length (rowsO
 unfolding laidRows view
 used-rows l = ap (λ (t : Table). t .used) (lays-table l)
 
--- the state with that table
-abbrev tabled : Table → State → State
-tabled t s = record { procs = s .procs; live = s .live; table = t; next = s .next }
+pub lays-used : {s : State} → Lays s (view s) → s .table .used ≤ 32
+unfolding view
+lays-used {s} l = let h : length (rowsOf (s .table)) ≤ 32 = l .used in omega (arith, used-rows l, h)
 
-lays-appended : {s : State} {t : Table} (r : Row) → Lays s (view s) → s .table .used < 32 → t ≡ laidRows (take 32 (rowsOf (s .table) ++ r ∷ [])) → Lays (tabled t s) (appended r (view s))
-unfolding laid appended view
-lays-appended {s} r l u e =
-    let h : length (rowsOf (s .table) ++ r ∷ []) ≤ 32 = rw (length-append (rowsOf (s .table)) (r ∷ [])) (omega (arith, used-rows l)) in
+-- one row more in the table
+abbrev pub added : Row → Table → Table
+added r t = record { rows = set (t .rows) (t .used) r; used = t .used + 1 }
+
+lays-appended : {s : State} (r : Row) → Lays s (view s) → s .table .used < 32 → Lays (tabled (added r (s .table)) s) (appended r (view s))
+unfolding laid appended view laidRows
+lays-appended {s} r l u =
+    let rows = rowsOf (s .table) in
+    let n : length (rows ++ r ∷ []) ≡ s .table .used + 1 = length-append rows (r ∷ []) ∙ ap (λ (k : ℕ). k + 1) (sym (used-rows l)) in
+    let h : length (rows ++ r ∷ []) ≤ 32 = rw n (omega arith) in
+    let places : set (s .table .rows) (s .table .used) r ≡ padded 32 noRow (rows ++ r ∷ []) =
+    ap (λ (t : Table). set (t .rows) (s .table .used) r) (lays-table l) ∙ padded-more 32 (s .table .used) noRow rows r (sym (used-rows l)) u in
     record {
       is =
           λ j. record {
             procs = l .is j .procs;
             live = l .is j .live;
-            table = (e ∙ ap laidRows (take-all 32 (rowsOf (s .table) ++ r ∷ []) h)) j;
+            table = record { rows = places j; used = sym n j };
             next = l .is j .next;
           };
       live = l .live;
       used = h;
     }
 
-module _ {s : State} {i : ℕ} {p : Process} (c : Caller s i p) (r : Row) {t : Table} (u : s .table .used < 32) (e : t ≡ laidRows (take 32 (rowsOf (s .table) ++ r ∷ []))) where
-  pub queue-held : waits (view s .rows) r ≡ false → answeredAs 0 0 (tabled t s) ≡ settled s (queued p r (view s))
-  unfolding settled queued appended
-  queue-held w = rw w (settled-quiet s done 0 0 (lays-appended r (c .lays) u e) (same-masks (view s) (appended r (view s)) (caller-ok c) refl))
+-- ---- the request decided on the table
 
-  pub queue-waits : {q : Process} → q ≡ asleepFor forLock 0 p → waits (view s .rows) r ≡ true → answeredAs 1 0 (stored i q (tabled t s)) ≡ settled s (queued p r (view s))
-  unfolding settled queued appended put
-  queue-waits f w =
-      let q = asleepFor forLock 0 p in
-      rw (w, f)
-      (settled-quiet s nowAsleep 0 0 (lays-put q (lays-appended r (c .lays) u e) (c .place) (c .stands))
-      (put-masks (view s) (put q (appended r (view s))) (caller-ok c) q refl (rw (← c .is) (c .awake))))
+module _ {t : Table} {p : Process} {x : Locked} where
+  -- refused: the caller and the table as they were
+  pub locked-not : (n : ℕ) (o : Machine → Outcome Machine) → x ≡ record { told = toldNo n p; table = t }
+      → ((s : State) (i : ℕ) → Caller s i p → s .table ≡ t → refusedBy n s ≡ settled s (o (view s))) → LockedAs t p o x
+  locked-not n o e h s i c k =
+      ap (keptWith s i) e
+      ∙ (λ j. record { answer = answerOf 3 n 0 0; state = record { procs = caller-back c j; live = s .live; table = sym k j; next = s .next } }) ∙ h s i c k
+
+  pub locked-on : (o u : Machine → Outcome Machine) → LockedAs t p o x → ((s : State) (i : ℕ) → Caller s i p → s .table ≡ t → settled s (o (view s)) ≡ settled s (u (view s))) → LockedAs t p u x
+  locked-on o u a h s i c k = a s i c k ∙ h s i c k
+
+table-used : {s : State} {t : Table} → Lays s (view s) → s .table ≡ t → t .used ≡ length (view s .rows)
+unfolding view
+table-used l k = ap (λ (t : Table). t .used) (sym k) ∙ used-rows l
+
+module _ {t : Table} (p : Process) (r : Row) where
+  pub queue-full : {s : State} {i : ℕ} → t .used ≡ 32 → Caller s i p → s .table ≡ t → refusedBy 13 s ≡ settled s (queuedOrFull p r (view s))
+  unfolding settled
+  queue-full f c k = rw (eq-eqb _ 32 (sym (table-used (c .lays) k) ∙ f))
+
+  module _ (f : t .used ≡ 32 → ⊥) (u : t .used ≤ 32) where
+    room : (s : State) → s .table ≡ t → s .table .used < 32
+    room s k = let h : t .used < 32 = omega (arith, f, u) in rw k h
+
+    queue-on : {s : State} {i : ℕ} → Caller s i p → s .table ≡ t → settled s (queued p r (view s)) ≡ settled s (queuedOrFull p r (view s))
+    unfolding settled
+    queue-on c k = rw (ne-eqb _ 32 (λ (q : _). f (table-used (c .lays) k ∙ q)))
+
+    pub queue-held : {x : Locked} → waits (rowsOf t) r ≡ false → x ≡ record { told = record { answer = answerOf 0 0 0 0; process = p }; table = added r t } → LockedAs t p (queuedOrFull p r) x
+    unfolding settled queued appended view
+    queue-held {x} w e s i c k =
+        let v : waits (rowsOf (s .table)) r ≡ false = rw k w in
+        ap (keptWith s i) e
+        ∙ (λ j. record { answer = answerOf 0 0 0 0; state = record { procs = caller-back c j; live = s .live; table = added r (sym k j); next = s .next } })
+        ∙ rw v (settled-quiet s done 0 0 (lays-appended r (c .lays) (room s k)) (same-masks (view s) (appended r (view s)) (caller-ok c) refl))
+        ∙ queue-on c k
+
+    pub queue-waits : {x : Locked} {q : Process} → waits (rowsOf t) r ≡ true → q ≡ asleepFor forLock 0 p → x ≡ record { told = record { answer = answerOf 1 0 0 0; process = q }; table = added r t } → LockedAs t p (queuedOrFull p r) x
+    unfolding settled queued appended put view
+    queue-waits {x} {q} w f e s i c k =
+        let v : waits (rowsOf (s .table)) r ≡ true = rw k w in
+        let a = asleepFor forLock 0 p in
+        ap (keptWith s i) e
+        ∙ (λ j. record { answer = answerOf 1 0 0 0; state = record { procs = set (s .procs) i (f j); live = s .live; table = added r (sym k j); next = s .next } })
+        ∙ rw v
+        (settled-quiet s nowAsleep 0 0 (lays-put a (lays-appended r (c .lays) (room s k)) (c .place) (c .stands))
+        (put-masks (view s) (put a (appended r (view s))) (caller-ok c) a refl (rw (← c .is) (c .awake))))
+        ∙ queue-on c k
 
 -- the caller's place is one of the 16
 pub caller-fits : {s : State} {i : ℕ} {p : Process} → Caller s i p → i < 16
@@ -110,32 +159,32 @@ module _ (rows : List Row) (e : Event) (r : Row) where
   pub passes-waits : e .d2 < 2 → leadsBack rows r ≡ false → Passes rows e r
   passes-waits l b = record { unlocked = rw (lt-leb 2 (e .d2) l) (and-false (waits rows r)); ringless = rw b (and-false (waits rows r)) }
 
-module _ (s : State) (p : Process) (e : Event) (r : Row) where
-  pub lock-held : hasTwin r (rowsOf (s .table)) ≡ true → refusedBy 10 s ≡ settled s (lockRow p e r (view s))
+module _ {t : Table} (p : Process) (e : Event) (r : Row) (s : State) (k : s .table ≡ t) where
+  pub lock-held : hasTwin r (rowsOf t) ≡ true → refusedBy 10 s ≡ settled s (lockRow p e r (view s))
   unfolding settled lockRow view
-  lock-held h = rw h
+  lock-held h = let v : hasTwin r (rowsOf (s .table)) ≡ true = rw k h in rw v
 
-  module _ (h : hasTwin r (rowsOf (s .table)) ≡ false) where
-    pub lock-locked : waits (rowsOf (s .table)) r ≡ true → 2 ≤ e .d2 → refusedBy 11 s ≡ settled s (lockRow p e r (view s))
+  module _ (h : hasTwin r (rowsOf t) ≡ false) where
+    free : hasTwin r (rowsOf (s .table)) ≡ false
+    free = rw k h
+
+    pub lock-locked : waits (rowsOf t) r ≡ true → 2 ≤ e .d2 → refusedBy 11 s ≡ settled s (lockRow p e r (view s))
     unfolding settled lockRow view
-    lock-locked w l = rw (h, w, le-leb 2 (e .d2) l)
+    lock-locked w l = let v : waits (rowsOf (s .table)) r ≡ true = rw k w in rw (free, v, le-leb 2 (e .d2) l)
 
-    pub lock-dead : waits (rowsOf (s .table)) r ≡ true → e .d2 < 2 → leadsBack (rowsOf (s .table)) r ≡ true → refusedBy 12 s ≡ settled s (lockRow p e r (view s))
+    pub lock-dead : waits (rowsOf t) r ≡ true → e .d2 < 2 → leadsBack (rowsOf t) r ≡ true → refusedBy 12 s ≡ settled s (lockRow p e r (view s))
     unfolding settled lockRow view
-    lock-dead w l b = rw (h, w, lt-leb 2 (e .d2) l, b)
+    lock-dead w l b =
+        let v : waits (rowsOf (s .table)) r ≡ true = rw k w in
+        let d : leadsBack (rowsOf (s .table)) r ≡ true = rw k b in
+        rw (free, v, lt-leb 2 (e .d2) l, d)
 
-    module _ (l : Lays s (view s)) (g : Passes (rowsOf (s .table)) e r) where
-      pub lock-full : s .table .used ≡ 32 → refusedBy 13 s ≡ settled s (lockRow p e r (view s))
-      unfolding settled lockRow view
-      lock-full f = rw (h, g .unlocked, g .ringless, eq-eqb (length (rowsOf (s .table))) 32 (sym (used-rows l) ∙ f))
-
-      pub lock-queued : (s .table .used ≡ 32 → ⊥) → settled s (queued p r (view s)) ≡ settled s (lockRow p e r (view s))
-      unfolding settled lockRow view
-      lock-queued f = rw (h, g .unlocked, g .ringless, ne-eqb (length (rowsOf (s .table))) 32 (λ (k : length (rowsOf (s .table)) ≡ 32). f (used-rows l ∙ k)))
-
-pub table-room : {s : State} → Lays s (view s) → (s .table .used ≡ 32 → ⊥) → s .table .used < 32
-unfolding view
-table-room {s} l f = let h = used-rows l in let k : length (rowsOf (s .table)) ≤ 32 = l .used in omega (arith, h, k, f)
+    pub lock-queued : Passes (rowsOf t) e r → settled s (queuedOrFull p r (view s)) ≡ settled s (lockRow p e r (view s))
+    unfolding settled lockRow view
+    lock-queued g =
+        let a : (waits (rowsOf (s .table)) r && conditional e) ≡ false = rw k (g .unlocked) in
+        let b : (waits (rowsOf (s .table)) r && leadsBack (rowsOf (s .table)) r) ≡ false = rw k (g .ringless) in
+        rw (free, a, b)
 
 module _ (s : State) (p : Process) (e : Event) where
   pub lock-bad : (ltb 3 (e .d2) || badSequence e) ≡ true → refusedBy 5 s ≡ settled s (doLock p e (view s))

@@ -1,11 +1,11 @@
 -- What the courses of an event come to. A reader who believes the promises of `step` and `advance` need not read this. Assumes nothing.
-use Prim.Native.Nat.{ℕ}
+use mathlib.Core.Bool.{Bool, true, false}
 use mathlib.Core.Path.{_≡_}
-use Rattle.rules.specs.State.{view}
+use Rattle.rules.specs.State.{view, lives, processOf, sleeps}
 use Rattle.rules.specs.Outcome.{own}
 use Rattle.rules.specs.Signals.{taken}
-use Rattle.rules.specs.Calls.{doLock, doUnlock, sendKill, doExit, doFShell, ownCall, doCall}
-use Rattle.rules.specs.Step.{reported, ofCaller, settled}
+use Rattle.rules.specs.Calls.{doLock, doUnlock, sendKill, doExit, doFShell, ownCall, doCall, called}
+use Rattle.rules.specs.Step.{reported, outcome, settled}
 use Rattle.rules.specs.declared.state.Process.{Process}
 use Rattle.rules.specs.declared.state.State.{State}
 use Rattle.rules.specs.declared.state.Event.{Event}
@@ -31,6 +31,25 @@ follows s p e Report = settled s (own (view s) (reported p))
 abbrev pub OfCall : Call → Course → Type 0
 OfCall c x = (s : State) (p : Process) (e : Event) → follows s p e x ≡ settled s (doCall c p e (view s))
 
--- the course of an event of a process that has those traps pending
-abbrev pub OfEvent : ℕ → Event → Course → Type 0
-OfEvent pending e x = (s : State) (p : Process) → p .signals .pending ≡ pending → follows s p e x ≡ settled s (ofCaller p e (view s))
+-- the course of the call that an event asks for
+abbrev pub OfNumber : Event → Course → Type 0
+OfNumber e x = (s : State) (p : Process) → follows s p e x ≡ settled s (called p e (view s))
+
+-- a process that is awake calls
+unfoldable pub acts : Course → Bool
+acts (Refused n) = false
+acts (Own c) = true
+acts Lock = true
+acts Unlock = true
+acts Kill = true
+acts Exit = true
+acts FShell = true
+acts Take = true
+acts Report = true
+
+-- the course of an event that is no tick, where p is the caller or, if the caller does not live, another
+pub record OfEvent (p : Process) (e : Event) (x : Course) : Type 0 where
+  pub caller : acts x ≡ true → (p .pid ≡ e .caller) × (sleeps p ≡ false)
+  pub is : (s : State) → (e .kind ≡ 2 → ⊥) → ((p .pid ≡ e .caller → ⊥) → lives (view s) (e .caller) ≡ false)
+      → (p .pid ≡ e .caller → (lives (view s) (e .caller) ≡ true) × (p ≡ processOf (view s) (e .caller)))
+      → follows s p e x ≡ settled s (outcome e (view s))

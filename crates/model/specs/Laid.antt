@@ -6,16 +6,22 @@ use mathlib.Core.List.{List, [], _∷_}
 use lib.ListN.{length, set}
 use lib.Dec.{eqb}
 use Rattle.locks.specs.Rows.{rowsOf, laidRows}
+use Rattle.locks.specs.declared.rows.Row.{Row}
 use Rattle.locks.specs.declared.rows.Table.{Table}
 use Rattle.rules.specs.State.{Machine, view, laid, pids, processOf, sleeps}
 use Rattle.rules.specs.Sound.{soundMachine}
-use Rattle.rules.specs.Step.{wokenMask, endedMask}
+use Rattle.rules.specs.Outcome.{Outcome, when, lcktable}
+use Rattle.rules.specs.Calls.{queued, doFShell}
+use Rattle.rules.specs.Step.{wokenMask, endedMask, settled}
 use Rattle.rules.specs.declared.state.Process.{Process}
 use Rattle.rules.specs.declared.state.State.{State}
 use Rattle.rules.specs.declared.state.Answer.{Answer}
 use Rattle.rules.specs.declared.state.Stepped.{Stepped}
 use Rattle.processes.specs.Told.{answerOf}
+use Rattle.rules.specs.declared.state.Event.{Event}
 use Rattle.processes.specs.declared.own.Told.{Told}
+use Rattle.model.specs.declared.locking.Locked.{Locked}
+use Rattle.model.specs.declared.children.Born.{Born}
 
 -- s is m laid out, and m has room there
 pub record Lays (s : State) (m : Machine) : Type 0 where
@@ -63,6 +69,29 @@ abbrev pub settledAs : State → ℕ → State → Stepped
 settledAs s kind t =
     record { answer = masked kind (wokenMask (view s) (view t)) (endedMask (view s) (view t)); state = t }
 
--- refused: the state as it was; else the caller in its place
+-- the caller in its place
 abbrev pub kept : State → ℕ → Told → Stepped
-kept s i x = record { answer = x .answer; state = cond (eqb (x .answer .kind) 3) s (stored i (x .process) s) }
+kept s i x = record { answer = x .answer; state = stored i (x .process) s }
+
+-- ---- a lock request and a child, decided without the state
+
+-- the caller in its place, and the table
+abbrev pub keptWith : State → ℕ → Locked → Stepped
+keptWith s i x =
+    record { answer = x .told .answer; state = record { procs = set (s .procs) i (x .told .process); live = s .live; table = x .table; next = s .next } }
+
+-- what a request of p comes to in every state with that table where p calls
+abbrev pub LockedAs : Table → Process → (Machine → Outcome Machine) → Locked → Type 0
+LockedAs t p o x = (s : State) (i : ℕ) → Caller s i p → s .table ≡ t → keptWith s i x ≡ settled s (o (view s))
+
+-- "lcktable", and else the row stands last
+abbrev pub queuedOrFull : Process → Row → Machine → Outcome Machine
+queuedOrFull p r m = when (eqb (length (m .rows)) 32) lcktable (queued p r m)
+
+-- the process at its place, and the caller in its own
+abbrev pub bornWith : State → ℕ → Born → Stepped
+bornWith s i x =
+    record { answer = x .told .answer; state = record { procs = set (set (s .procs) (x .at) (x .child)) i (x .told .process); live = x .live; table = s .table; next = x .next } }
+
+abbrev pub BornAs : ℕ → ℕ → ℕ → Process → Event → Born → Type 0
+BornAs live next i p e x = (s : State) → Caller s i p → s .live ≡ live → s .next ≡ next → bornWith s i x ≡ settled s (doFShell p e (view s))

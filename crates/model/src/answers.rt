@@ -1,12 +1,13 @@
 // Answers: a refusal, an answer without masks, and one with the masks by comparison of the states before and after.
 use crate::state::*;
+use processes::Told;
 use rules::state::*;
 use soundness::pids_of;
 ghost use mathlib.Core.Path.{_≡_};
 ghost use mathlib.Core.Bool.{cond};
 ghost use Prim.Native.Nat.{_+_, _*_, _<_};
 ghost use Rattle.rules.specs.State.{view};
-ghost use Rattle.processes.specs.Told.{answerOf};
+ghost use Rattle.processes.specs.Told.{answerOf, toldNo};
 ghost use Rattle.model.specs.Laid.{Lays, masked, settledAs};
 
 fn shifted(m: u16, b: bool) -> u16
@@ -40,6 +41,25 @@ pub(crate) fn plain(kind: u8, d3: u32) -> Answer
         ended: 0,
         d3: d3,
         a0: 0,
+    }
+}
+
+// Refused: the caller stays as it is.
+pub(crate) fn refused(number: u8, p: Process) -> Told
+    ensures { λ r. ⌜ r ≡ toldNo number p ⌝ }
+{
+    Told {
+        answer: refusal(number),
+        process: p,
+    }
+}
+
+pub(crate) fn answered(kind: u8, d3: u32, p: Process) -> Told
+    ensures { λ r. ⌜ r ≡ record { answer = answerOf kind 0 d3 0; process = p } ⌝ }
+{
+    Told {
+        answer: plain(kind, d3),
+        process: p,
     }
 }
 

@@ -6,10 +6,12 @@ use processes::*;
 use rules::state::*;
 use soundness::pids_of;
 ghost use mathlib.Core.Path.{_≡_};
+ghost use Prim.Native.Nat.{_≤_, _<_};
 ghost use Rattle.rules.specs.State.{view};
-ghost use Rattle.rules.specs.Calls.{doFShell, doExit, outlived, sendKill};
+ghost use Rattle.rules.specs.Calls.{doExit, outlived, sendKill};
 ghost use Rattle.rules.specs.Step.{settled};
-ghost use Rattle.model.specs.Laid.{Lays, Caller};
+ghost use Rattle.processes.specs.Told.{toldNo};
+ghost use Rattle.model.specs.Laid.{Lays, BornAs};
 
 const BADCALL: u8 = 5;
 
@@ -19,30 +21,45 @@ const NOPROC: u8 = 8;
 
 const NOMEMORY: u8 = 9;
 
-pub(crate) fn fshell(s: State, i: usize, p: Process, e: Event) -> Stepped
-    requires { ⌜ Caller s i p ⌝ }
-    ensures { λ x. ⌜ x ≡ settled s (doFShell p e (view s)) ⌝ }
+// The answer and the caller after it, the process for a place, the live, and the next PID.
+pub(crate) struct Born {
+    pub told: Told,
+    pub child: Process,
+    pub at: usize,
+    pub live: usize,
+    pub next: u32,
+}
+
+// The caller in its own place.
+fn not_born(number: u8, i: usize, p: Process, live: usize, next: u32) -> Born
+    ensures { λ x. ⌜ x ≡ record { told = toldNo number p; child = p; at = i; live = live; next = next } ⌝ }
+{
+    Born {
+        told: refused(number, p),
+        child: p,
+        at: i,
+        live: live,
+        next: next,
+    }
+}
+
+// The child comes behind the live.
+pub(crate) fn fshell(i: usize, p: Process, e: Event, live: usize, next: u32) -> Born
+    requires { ⌜ (i < 16) × ((live ≤ 16) × (next ≤ 65536)) ⌝ }
+    ensures { λ x. ⌜ (x .at < 16) × BornAs live next i p e x ⌝ }
 {
     if 255 < e.d1 || 255 < e.d2 {
-        return Stepped {
-            answer: refusal(BADCALL),
-            state: s,
-        };
+        return not_born(BADCALL, i, p, live, next);
     }
-    if s.live == 16 || s.next == 65536 {
-        return Stepped {
-            answer: refusal(NOMEMORY),
-            state: s,
-        };
+    if live == 16 || next == 65536 {
+        return not_born(NOMEMORY, i, p, live, next);
     }
-    let n = s.live;
-    let mut t = s;
-    t.procs[n] = child_of(p, e, s.next as u16);
-    t.live = n + 1;
-    t.next = s.next + 1;
-    Stepped {
-        answer: plain(0, s.next),
-        state: t,
+    Born {
+        told: answered(0, next, p),
+        child: child_of(p, e, next as u16),
+        at: live,
+        live: live + 1,
+        next: next + 1,
     }
 }
 

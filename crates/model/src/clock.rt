@@ -1,12 +1,18 @@
 // One second.
+use crate::answers::*;
 use crate::signals::*;
 use crate::state::*;
 use processes::*;
 use rules::state::*;
 use soundness::pids_of;
+ghost use mathlib.Core.Path.{_≡_};
+ghost use mathlib.Core.Bool.{true};
 ghost use Prim.Native.Nat.{_-_, _≤_};
 ghost use Rattle.rules.specs.State.{view, pids, each};
 ghost use Rattle.rules.specs.Clock.{slept, rings, alarms, ticked};
+ghost use Rattle.rules.specs.Outcome.{done, answered};
+ghost use Rattle.rules.specs.Sound.{soundMachine};
+ghost use Rattle.rules.specs.Step.{settled};
 ghost use Rattle.model.specs.Laid.{Lays};
 
 fn pass_second(s: State) -> State
@@ -67,4 +73,11 @@ pub(crate) fn pass(s: State) -> State
     ensures { λ r. ⌜ Lays r (ticked (view s)) ⌝ }
 {
     ring_all(pass_second(s))
+}
+
+pub(crate) fn tick(s: State) -> Stepped
+    requires { ⌜ Lays s (view s) × (soundMachine (view s) ≡ true) ⌝ }
+    ensures { λ r. ⌜ r ≡ settled s (answered done 0 0 (ticked (view s))) ⌝ }
+{
+    settle(s, pass(s), 0)
 }

@@ -10,11 +10,9 @@ use rules::state::*;
 use soundness::*;
 ghost use mathlib.Core.Path.{_≡_};
 ghost use mathlib.Core.Bool.{true};
-ghost use Prim.Native.Nat.{_<_};
 ghost use Rattle.rules.specs.Sound.{sound};
 ghost use Rattle.rules.specs.Step.{stepOf};
-ghost use Rattle.model.specs.Laid.{kept};
-ghost use Rattle.model.specs.Course.{OfCall, OfEvent};
+ghost use Rattle.model.specs.Course.{OfCall, OfNumber, OfEvent};
 
 const BADSTATE: u8 = 1;
 
@@ -55,18 +53,9 @@ fn of_call(c: Call) -> Course
 }
 
 // The number is in the event, or for the indirect call in D0.
-fn course_of(pending: u8, e: Event) -> Course
-    ensures { λ x. ⌜ OfEvent pending e x ⌝ }
+fn course_of_call(e: Event) -> Course
+    ensures { λ x. ⌜ OfNumber e x ⌝ }
 {
-    if e.kind == 3 {
-        return Course::Take;
-    }
-    if e.kind != 1 {
-        return Course::Report;
-    }
-    if pending != 0 {
-        return Course::Refused(TRAP);
-    }
     let mut number = e.call as u16;
     if number == 0x51 {
         if e.d0 == 0x51 {
@@ -81,64 +70,81 @@ fn course_of(pending: u8, e: Event) -> Course
     }
 }
 
-// The caller as it is after, in its place.
-fn keep(s: State, i: usize, x: Told) -> Stepped
-    requires { ⌜ i < 16 ⌝ }
-    ensures { λ r. ⌜ r ≡ kept s i x ⌝ }
+// The process p is the caller's, if it has its PID.
+fn course_of(p: Process, e: Event) -> Course
+    ensures { λ x. ⌜ OfEvent p e x ⌝ }
 {
-    let answer = x.answer;
-    if answer.kind == 3 {
-        return Stepped {
-            answer: answer,
-            state: s,
-        };
+    if e.kind < 1 || 4 < e.kind {
+        return Course::Refused(BADCALL);
     }
-    let mut t = s;
-    let q = x.process;
-    t.procs[i] = q;
-    Stepped {
-        answer: answer,
-        state: t,
+    if p.pid != e.caller {
+        return Course::Refused(BADCALLER);
     }
+    if p.rest.sleep != 0 {
+        return Course::Refused(ASLEEP);
+    }
+    if e.kind == 3 {
+        return Course::Take;
+    }
+    if e.kind == 4 {
+        return Course::Report;
+    }
+    if p.signals.pending != 0 {
+        return Course::Refused(TRAP);
+    }
+    course_of_call(e)
 }
 
-pub fn advance(s: State, e: Event) -> Stepped
+pub fn advance(mut s: State, e: Event) -> Stepped
     requires { ⌜ sound s ≡ true ⌝ }
     ensures { λ r. ⌜ (r ≡ stepOf s e) × (sound (r .state) ≡ true) ⌝ }
 {
-    if e.kind < 1 || 4 < e.kind {
-        return Stepped {
-            answer: refusal(BADCALL),
-            state: s,
-        };
-    }
     if e.kind == 2 {
-        return settle(s, pass(s), 0);
+        return tick(s);
     }
     let mut i: usize = 0;
-    while i < s.live && s.procs[i].pid != e.caller {
+    while i + 1 < s.live && s.procs[i].pid != e.caller {
         i += 1;
     }
-    if i == s.live || s.procs[i].rest.sleep != 0 {
-        return Stepped {
-            answer: refusal(if i == s.live { BADCALLER } else { ASLEEP }),
-            state: s,
-        };
-    }
     let p = s.procs[i];
-    match course_of(p.signals.pending, e) {
-        Course::Refused(n) => Stepped {
-            answer: refusal(n),
-            state: s,
-        },
-        Course::Own(o) => keep(s, i, own_call(o, p, e)),
-        Course::Lock => lock(s, i, p, e),
-        Course::Unlock => unlock(s, i, p, e),
-        Course::Kill => kill(s, p, e),
-        Course::Exit => exit(s, p),
-        Course::FShell => fshell(s, i, p, e),
-        Course::Take => keep(s, i, take(p)),
-        Course::Report => keep(s, i, report(p)),
+    let x = match course_of(p, e) {
+        Course::Refused(n) => refused(n, p),
+        Course::Own(o) => own_call(o, p, e),
+        Course::Take => take(p),
+        Course::Report => report(p),
+        Course::Lock => {
+            let y = lock(s.table, p, e);
+            let t = y.table;
+            s.table = t;
+            let told = y.told;
+            told
+        }
+        Course::FShell => {
+            let y = fshell(i, p, e, s.live, s.next);
+            let at = y.at;
+            let child = y.child;
+            s.procs[at] = child;
+            s.live = y.live;
+            s.next = y.next;
+            let told = y.told;
+            told
+        }
+        Course::Unlock => {
+            return unlock(s, i, p, e);
+        }
+        Course::Kill => {
+            return kill(s, p, e);
+        }
+        Course::Exit => {
+            return exit(s, p);
+        }
+    };
+    let q = x.process;
+    s.procs[i] = q;
+    let answer = x.answer;
+    Stepped {
+        answer: answer,
+        state: s,
     }
 }
 

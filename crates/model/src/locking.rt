@@ -6,13 +6,14 @@ use locks::search::*;
 use processes::*;
 use rules::state::*;
 ghost use mathlib.Core.Path.{_≡_};
-ghost use mathlib.Core.Bool.{false};
-ghost use Prim.Native.Nat.{_<_};
-ghost use Rattle.locks.specs.Rows.{waits};
+ghost use mathlib.Core.Bool.{true, false};
+ghost use Prim.Native.Nat.{_≤_};
+ghost use Rattle.locks.specs.Rows.{rowsOf, waits, hasTwin};
 ghost use Rattle.rules.specs.State.{view};
-ghost use Rattle.rules.specs.Calls.{badSequence, rowOf, queued, lockRow, doLock, doUnlock};
+ghost use Rattle.rules.specs.Calls.{badSequence, rowOf, lockRow, doLock, doUnlock};
 ghost use Rattle.rules.specs.Step.{settled};
-ghost use Rattle.model.specs.Laid.{Lays, Caller};
+ghost use Rattle.processes.specs.Told.{toldNo};
+ghost use Rattle.model.specs.Laid.{Caller, LockedAs, queuedOrFull};
 
 const BADCALL: u8 = 5;
 
@@ -52,74 +53,79 @@ fn row_of(p: Process, e: Event, shared: bool) -> Row
     }
 }
 
+// The answer, the caller after it, and the table.
+pub(crate) struct Locked {
+    pub told: Told,
+    pub table: Table,
+}
+
+fn not_locked(number: u8, p: Process, t: Table) -> Locked
+    ensures { λ x. ⌜ x ≡ record { told = toldNo number p; table = t } ⌝ }
+{
+    Locked {
+        told: refused(number, p),
+        table: t,
+    }
+}
+
 // The row comes last; where it waits its owner sleeps.
-fn queue(s: State, i: usize, p: Process, r: Row, waiting: bool) -> Stepped
-    requires { ⌜ Caller s i p × ((s .table .used < 32) × (waiting ≡ waits (view s .rows) r)) ⌝ }
-    ensures { λ x. ⌜ x ≡ settled s (queued p r (view s)) ⌝ }
+fn queue(mut t: Table, p: Process, r: Row, waiting: bool) -> Locked
+    requires { ⌜ (t .used ≤ 32) × (waiting ≡ waits (rowsOf t) r) ⌝ }
+    ensures { λ x. ⌜ LockedAs t p (queuedOrFull p r) x ⌝ }
 {
-    let table = append(s.table, r);
-    let mut t = s;
-    t.table = table;
-    if waiting {
-        t.procs[i] = asleep_for(p, 2, 0);
-        return Stepped {
-            answer: plain(1, 0),
-            state: t,
-        };
-    }
-    Stepped {
-        answer: plain(0, 0),
-        state: t,
-    }
-}
-
-fn lock_row(s: State, i: usize, p: Process, e: Event, r: Row) -> Stepped
-    requires { ⌜ Caller s i p ⌝ }
-    ensures { λ x. ⌜ x ≡ settled s (lockRow p e r (view s)) ⌝ }
-{
-    let t = s.table;
-    if has_twin(t, r) {
-        return Stepped {
-            answer: refusal(HELD),
-            state: s,
-        };
-    }
-    let waiting = waits(t, r);
-    if waiting {
-        if 2 <= e.d2 {
-            return Stepped {
-                answer: refusal(LOCKED),
-                state: s,
-            };
-        }
-        if leads_back(t, r) {
-            return Stepped {
-                answer: refusal(DEADLOCK),
-                state: s,
-            };
-        }
-    }
     if t.used == 32 {
-        return Stepped {
-            answer: refusal(LCKTABLE),
-            state: s,
+        return not_locked(LCKTABLE, p, t);
+    }
+    let n = t.used;
+    t.rows[n] = r;
+    t.used = n + 1;
+    if waiting {
+        return Locked {
+            told: answered(1, 0, asleep_for(p, 2, 0)),
+            table: t,
         };
     }
-    queue(s, i, p, r, waiting)
+    Locked {
+        told: answered(0, 0, p),
+        table: t,
+    }
 }
 
-pub(crate) fn lock(s: State, i: usize, p: Process, e: Event) -> Stepped
-    requires { ⌜ Caller s i p ⌝ }
-    ensures { λ x. ⌜ x ≡ settled s (doLock p e (view s)) ⌝ }
+fn wait_row(t: Table, p: Process, e: Event, r: Row) -> Locked
+    requires { ⌜ (t .used ≤ 32) × (hasTwin r (rowsOf t) ≡ false) × (waits (rowsOf t) r ≡ true) ⌝ }
+    ensures { λ x. ⌜ LockedAs t p (lockRow p e r) x ⌝ }
+{
+    if 2 <= e.d2 {
+        return not_locked(LOCKED, p, t);
+    }
+    if leads_back(t, r) {
+        return not_locked(DEADLOCK, p, t);
+    }
+    queue(t, p, r, true)
+}
+
+fn lock_row(t: Table, p: Process, e: Event, r: Row) -> Locked
+    requires { ⌜ t .used ≤ 32 ⌝ }
+    ensures { λ x. ⌜ LockedAs t p (lockRow p e r) x ⌝ }
+{
+    if has_twin(t, r) {
+        return not_locked(HELD, p, t);
+    }
+    if waits(t, r) {
+        return wait_row(t, p, e, r);
+    }
+    queue(t, p, r, false)
+}
+
+pub(crate) fn lock(t: Table, p: Process, e: Event) -> Locked
+    requires { ⌜ t .used ≤ 32 ⌝ }
+    ensures { λ x. ⌜ LockedAs t p (doLock p e) x ⌝ }
 {
     if 3 < e.d2 || bad_sequence(e) {
-        return Stepped {
-            answer: refusal(BADCALL),
-            state: s,
-        };
+        return not_locked(BADCALL, p, t);
     }
     let r = row_of(p, e, e.d2 == 0 || e.d2 == 2);
-    lock_row(s, i, p, e, r)
+    lock_row(t, p, e, r)
 }
 
 pub(crate) fn unlock(s: State, i: usize, p: Process, e: Event) -> Stepped

@@ -1,84 +1,71 @@
 -- `model::children::fshell` meets its contract. Assumes nothing.
 use borrow.Author.Needs.{needs}
-use Rattle.model.proofs.children.fshell.Statement.{statement}
-use Rattle.model.proofs.children.fshell.Tie as tie
-use borrow.Author.Tests.{lt-ltb, le-ltb, eq-eqb, ne-eqb, eqb-false}
 use native.Mathlib.Omega.{arith}
 use mathlib.Core.Path.{_≡_}
 use mathlib.Core.Bool.{true, false, _||_}
 use mathlib.Core.Logic.{⊎-elim}
 use lib.Dec.{eqb, ltb}
-use Rattle.model.proofs.Laying.{lays-fits}
-use Rattle.model.proofs.Events.{next-fits, born-no, born-full, born-last}
+use borrow.Author.Tests.{lt-ltb, le-ltb, eq-eqb, ne-eqb, eqb-false}
+use Rattle.model.proofs.Events.{born-no, born-full, born-last}
+use Rattle.model.proofs.children.fshell.Statement.{statement}
+use Rattle.model.proofs.children.fshell.Tie as tie
 
-refusal-requires : tie.Need-refusal-requires
-refusal-requires c κs = search needs
+not-born-requires : tie.Need-not-born-requires
+not-born-requires c κs = search needs
 
 returns : tie.Need-returns
 returns c =
-    let s = c .before .before .before in
-    let h : (ltb 255 (s .args .e .d1) || ltb 255 (s .args .e .d2)) ≡ true =
-    ⊎-elim (λ w. rw (lt-ltb _ _ (w .taken))) (λ w. rw (le-ltb _ _ (w .0 .left), w .2 .taken)) (c .before .if1 .came) in
-    rw (c .refusal .ensures) (born-no (s .pre) (s .args .e) h)
+    let o = c .before .before .before in
+    let e = o .args .e in
+    let h : (ltb 255 (e .d1) || ltb 255 (e .d2)) ≡ true = ⊎-elim (λ w. rw (lt-ltb _ _ (w .taken))) (λ w. rw (le-ltb _ _ (w .0 .left), w .2 .taken)) (c .before .if1 .came) in
+    (rw (c .not-born .ensures) (o .pre .0), born-no e h (c .not-born .ensures))
 
-refusal-requires-2 : tie.Need-refusal-requires-2
-refusal-requires-2 c κs = search needs
+not-born-requires-2 : tie.Need-not-born-requires-2
+not-born-requires-2 c κs = search needs
 
 returns-2 : tie.Need-returns-2
 returns-2 c =
-    let s = c .before .before .before .before .before .before .before in
-    let h : (ltb 255 (s .args .e .d1) || ltb 255 (s .args .e .d2)) ≡ false = rw (le-ltb _ _ (c .before .before .before .before .before .if1 .left), c .before .before .before .if2 .left) in
-    let f : (eqb (s .args .s .live) 16 || eqb (s .args .s .next) 65536) ≡ true =
-    ⊎-elim (λ w. rw (eq-eqb _ _ (w .taken))) (λ w. rw (ne-eqb _ _ (w .0 .left), w .2 .taken)) (c .before .if3 .came) in
-    rw (c .refusal2 .ensures) (born-full (s .pre) (s .args .e) h f)
+    let o = c .before .before .before .before .before .before in
+    let e = o .args .e in
+    let h : (ltb 255 (e .d1) || ltb 255 (e .d2)) ≡ false = rw (le-ltb _ _ (c .before .before .before .before .if1 .left), c .before .before .if2 .left) in
+    let f : (eqb (o .args .live) 16 || eqb (o .args .next) 65536) ≡ true = ⊎-elim (λ w. rw (eq-eqb _ _ (w .taken))) (λ w. rw (ne-eqb _ _ (w .0 .left), w .1 .taken)) (c .before .if3 .came) in
+    (rw (c .not-born2 .ensures) (o .pre .0), born-full e h f (c .not-born2 .ensures))
+
+answered-requires : tie.Need-answered-requires
+answered-requires c κs = search needs
 
 cast-child-of : tie.Need-cast-child-of
 cast-child-of c =
-    let s = c .before .before .before .before .before .before .before .before .before in
-    let n : s .args .s .next ≡ 65536 → ⊥ = eqb-false _ _ (c .before .if4 .left) in
-    omega (arith, next-fits (s .pre))
+    let n : c .before .before .before .before .before .before .before .args .next ≡ 65536 → ⊥ = eqb-false _ _ (c .before .if4 .left) in
+    omega (arith, c .before .before .before .before .before .before .before .pre .1 .1)
 
 child-of-requires : tie.Need-child-of-requires
 child-of-requires c κs = search needs
 
-mul-t15 : tie.Need-mul-t15
-mul-t15 c = omega (arith, lays-fits (c .before .before .before .before .before .before .before .before .before .before .pre .lays))
+add-t13 : tie.Need-add-t13
+add-t13 c = search needs
 
-element-set-from-t : tie.Need-element-set-from-t
-element-set-from-t c =
-    let n = c .before .before .before .before .if3 .left in
-    omega (arith, lays-fits (c .before .before .before .before .before .before .before .before .before .before .pre .lays))
-
-add-t : tie.Need-add-t
-add-t c = omega (arith, lays-fits (c .before .before .before .before .before .before .before .before .before .before .pre .lays))
-
-add-t-2 : tie.Need-add-t-2
-add-t-2 c = omega (arith, next-fits (c .before .before .before .before .before .before .before .before .before .before .before .pre))
-
-plain-requires : tie.Need-plain-requires
-plain-requires c κs = search needs
+add-t14 : tie.Need-add-t14
+add-t14 c = search needs
 
 returns-3 : tie.Need-returns-3
 returns-3 c =
-    let s = c .before .before .before .before .before .before .before .before .before .before .before .before in
-    let h : (ltb 255 (s .args .e .d1) || ltb 255 (s .args .e .d2)) ≡ false =
-    rw (le-ltb _ _ (c .before .before .before .before .before .before .before .before .before .before .if1 .left), c .before .before .before .before .before .before .before .before .if2 .left) in
-    rw (c .plain .ensures)
-    (rw (c .before .before .child-of .ensures) (born-last (s .pre) (s .args .e) h (c .before .before .before .before .before .before .if3 .left) (eqb-false _ _ (c .before .before .before .before .if4 .left))))
+    let o = c .before .before .before .before .before .before .before .before in
+    let e = o .args .e in
+    let h : (ltb 255 (e .d1) || ltb 255 (e .d2)) ≡ false = rw (le-ltb _ _ (c .before .before .before .before .before .before .if1 .left), c .before .before .before .before .if2 .left) in
+    (omega (arith, c .before .before .before .if3 .left, o .pre .1 .0), born-last e h (c .before .before .before .if3 .left) (o .pre .1 .0) (eqb-false _ _ (c .before .before .if4 .left)) (rw (c .before .answered .ensures, c .child-of .ensures)))
 
 pub fshell-spec : {M : Type 1} → statement M
 fshell-spec =
     tie.close
     (tie.spec
-    refusal-requires
+    not-born-requires
     returns
-    refusal-requires-2
+    not-born-requires-2
     returns-2
+    answered-requires
     cast-child-of
     child-of-requires
-    mul-t15
-    element-set-from-t
-    add-t
-    add-t-2
-    plain-requires
+    add-t13
+    add-t14
     returns-3)
