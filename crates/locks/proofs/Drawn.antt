@@ -6,7 +6,7 @@ use mathlib.Core.Path.{_≡_, refl, sym, _∙_}
 use mathlib.Core.Bool.{Bool, false, false≢true}
 use mathlib.Core.List.{List, [], _∷_, _++_}
 use lib.Dec.{ltb}
-use lib.ListN.{length, getD, set, take, replicate, length-append, length-take, List·getD-append, length-set}
+use lib.ListN.{length, getD, set, replicate, length-append, length-take, List·getD-append, length-set}
 use lib.Seq.{getD-take, getD-at, getD-set-same, getD-set-other}
 use borrow.Author.Count.{below-none, below-more}
 use borrow.Author.Tests.{ltb-true, ltb-false}
@@ -35,17 +35,19 @@ pub in-use : (t : Table) {n : ℕ} → length (t .rows) ≡ 32 → n ≡ min (t 
 unfolding rowsOf
 in-use t l e = record { long = l; room = omega arith; most = omega arith; count = length-take (t .used) (t .rows) ∙ rw (l, e) }
 
+pub row-at : (t : Table) {n : ℕ} → Used t n → (i : ℕ) (d : Row) → i < n → getD (t .rows) i d ≡ getD (rowsOf t) i noRow
+unfolding rowsOf
+row-at t u i d l =
+    let b : i < t .used = omega (arith, u .most) in
+    let k : i < length (t .rows) = omega (arith, u .long, u .room) in
+    getD-any (t .rows) i d noRow k ∙ sym (getD-take (t .used) (t .rows) i noRow b)
+
 module _ (t : Table) (r : Row) {n : ℕ} (u : Used t n) where
   pub asked-length : length (rowsOf t ++ r ∷ []) ≡ n + 1
   asked-length = rw (length-append, u .count)
 
   pub old-at : (i : ℕ) (d : Row) → i < n → getD (t .rows) i d ≡ getD (rowsOf t ++ r ∷ []) i noRow
-  unfolding rowsOf
-  old-at i d l =
-      let a : i < length (take (t .used) (t .rows)) = rw (u .count) l in
-      let b : i < t .used = omega (arith, u .most) in
-      let k : i < length (t .rows) = omega (arith, u .long, u .room) in
-      getD-any (t .rows) i d noRow k ∙ sym (List·getD-append (take (t .used) (t .rows)) (r ∷ []) noRow i a ∙ getD-take (t .used) (t .rows) i noRow b)
+  old-at i d l = row-at t u i d l ∙ sym (List·getD-append (rowsOf t) (r ∷ []) noRow i (rw (u .count) l))
 
   pub new-at : getD (rowsOf t ++ r ∷ []) n noRow ≡ r
   new-at = getD-at (rowsOf t) r [] noRow n (u .count)

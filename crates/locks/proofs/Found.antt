@@ -1,21 +1,19 @@
 -- What the search finds is what the rules say. Assumes nothing.
-use Prim.Native.Nat.{ℕ, _+_, _≤_, _<_}
-use native.Mathlib.Omega.{arith}
-use mathlib.Core.Path.{_≡_, sym, ap, _∙_}
-use mathlib.Core.Bool.{Bool, true, false, true≢false}
-use mathlib.Core.Logic.{_↔_}
+use Prim.Native.Nat.{ℕ, _≤_}
+use mathlib.Core.Path.{_≡_, sym, _∙_}
+use mathlib.Core.Bool.{Bool, true, false, true≢false, false≢true, and-false}
+use mathlib.Core.Logic.{_↔_, ⊎-elim}
 use mathlib.Core.List.{List, [], _∷_, _++_}
-use lib.ListN.{length, replicate, getD, length-append, List·getD-append}
+use lib.ListN.{length, replicate, getD}
 use borrow.Author.Tests.{eq-eqb}
-use Rattle.locks.specs.Lists.{any}
-use Rattle.locks.specs.Rows.{noRow, owns}
+use Rattle.locks.specs.Rows.{noRow, conflict}
 use Rattle.locks.specs.Chains.{Link, Chain, one, more}
-use Rattle.locks.specs.Search.{Owners, Ways, placeOf, Searched}
+use Rattle.locks.specs.Search.{InTheWay, Owners, Ways, placeOf, Searched}
 use Rattle.locks.specs.declared.rows.Row.{Row}
 use Rattle.locks.specs.declared.search.Seen.{Seen}
 use Rattle.locks.proofs.Tests.{cases}
-use Rattle.locks.proofs.Lists.{some-any}
 use Rattle.locks.proofs.Chains.{chain-map}
+use Rattle.locks.proofs.Rings.{new-link}
 use Rattle.locks.proofs.Drawn.{no-flag, link-leads, leads-link}
 use Rattle.locks.proofs.Opened.{no-way}
 
@@ -28,11 +26,15 @@ found-exact {owners = owners} {c = c} {p = p} {s = s} fits o w e d = (
       (λ h. absurd (no-way (λ q z. true≢false (sym z ∙ no-flag 33 (placeOf owners q))) (d .grown h) c (d .had h c e) (chain-map (link-leads fits o w) ch))),
 )
 
--- nobody waits for an owner without rows
-pub no-way-back : (rows : List Row) (r : Row) (n : ℕ) → any (owns n) rows ≡ false → {a : ℕ} → Chain (Link (rows ++ r ∷ [])) a n → ⊥
-no-way-back rows r n h (more l c) = no-way-back rows r n h c
-no-way-back rows r n h (one l) =
-    let k : length (rows ++ r ∷ []) ≡ length rows + 1 = length-append rows (r ∷ []) in
-    let i : l .other < length rows = omega (arith, l .stands, l .ahead) in
-    let e : getD rows (l .other) noRow .owner ≡ n = sym (ap (λ (q : Row). q .owner) (List·getD-append rows (r ∷ []) noRow (l .other) i)) ∙ l .to in
-    true≢false (sym (some-any (owns n) rows noRow (l .other) i (eq-eqb _ n e)) ∙ h)
+-- nobody waits for himself
+link-other : {rows : List Row} {a b : ℕ} → Link rows a b → a ≡ b → ⊥
+unfolding conflict
+link-other {rows} l e =
+    let x = getD rows (l .row) noRow in
+    let y = getD rows (l .other) noRow in
+    false≢true (rw (eq-eqb (x .owner) (y .owner) (l .from ∙ e ∙ sym (l .to)), and-false) at (l .conflicts))
+
+-- a chain ends with a link, and a link to the new row's owner is an old one
+pub no-way-back : (rows : List Row) (r : Row) → (InTheWay rows (r .owner) → ⊥) → {a : ℕ} → Chain (Link (rows ++ r ∷ [])) a (r .owner) → ⊥
+no-way-back rows r h (more l c) = no-way-back rows r h c
+no-way-back rows r h {a} (one l) = ⊎-elim (λ k. h (record { waiter = a; link = k })) (λ k. link-other l (k .0)) (new-link rows r a (r .owner) l)

@@ -5,7 +5,7 @@ pub mod Loops
 pub mod Tables
 pub mod Drawn
 pub mod Opened
-pub mod Found
 pub mod Chains
 pub mod Rings
+pub mod Found
 pub mod Cases

@@ -2,8 +2,8 @@
 use Prim.Native.Nat.{ℕ, zero, suc, _+_, _-_, _≤_, _<_, min}
 use native.Mathlib.Omega.{arith}
 use native.Mathlib.Numerals.{add-one}
-use mathlib.Core.Path.{_≡_, refl, sym, _∙_}
-use mathlib.Core.Bool.{Bool, true, false, and-false, and-true}
+use mathlib.Core.Path.{_≡_, refl, sym, ap, _∙_}
+use mathlib.Core.Bool.{Bool, true, false, _||_, and-false, and-true, or-false, or-true}
 use mathlib.Core.List.{List, [], _∷_, _++_, append-assoc, append-nil}
 use lib.Dec.{eqb, leb}
 use lib.ListN.{length, getD, take, set, replicate, length-append, List·getD-eq-default}
@@ -33,12 +33,22 @@ module _ {A : Type 0} where
     pub long : length xs ≡ cap
     pub whole : take n xs ≡ take all xs
 
+  walk-at : (xs : List A) (cap all n i : ℕ) → length xs ≡ cap → n ≡ min all cap → i ≤ n → Walk xs cap all n i
+  walk-at xs cap all n i h e l = record { inside = l; fits = omega arith; long = h; whole = rw e (take-min cap all xs h) }
+
   pub walk-start : (xs : List A) (cap all n : ℕ) → length xs ≡ cap → n ≡ min all cap → Walk xs cap all n 0
-  walk-start xs cap all n h e = record { inside = omega arith; fits = omega arith; long = h; whole = rw e (take-min cap all xs h) }
+  walk-start xs cap all n h e = walk-at xs cap all n 0 h e (omega arith)
+
+  -- for a loop that goes backward
+  pub walk-last : (xs : List A) (cap all n : ℕ) → length xs ≡ cap → n ≡ min all cap → Walk xs cap all n n
+  walk-last xs cap all n h e = walk-at xs cap all n n h e (omega arith)
 
   module _ {xs : List A} {cap all n i : ℕ} (w : Walk xs cap all n i) where
     pub walk-next : i < n → Walk xs cap all n (i + 1)
     walk-next l = record { inside = omega arith; fits = w .fits; long = w .long; whole = w .whole }
+
+    pub walk-back : Walk xs cap all n (i - 1)
+    walk-back = record { inside = omega (arith, w .inside); fits = w .fits; long = w .long; whole = w .whole }
 
     pub walk-end : n ≤ i → take i xs ≡ take all xs
     walk-end l = let e : i ≡ n = omega (arith, w .inside) in rw e (w .whole)
@@ -51,8 +61,17 @@ module _ {A : Type 0} where
 
     -- ---- a loop that looks for an element which passes a test
 
+    any-next : (f : A → Bool) (d : A) → i < n → any f (take (i + 1) xs) ≡ (any f (take i xs) || f (getD xs i d))
+    any-next f d l = rw (add-one i, take-suc xs i d (in-list l)) (any-end f (take i xs) (getD xs i d))
+
+    pub some-next : (f : A → Bool) (d : A) → i < n → f (getD xs i d) ≡ true → any f (take (i + 1) xs) ≡ true
+    some-next f d l e = any-next f d l ∙ rw e (or-true (any f (take i xs)))
+
+    pub same-next : (f : A → Bool) (d : A) → i < n → f (getD xs i d) ≡ false → any f (take (i + 1) xs) ≡ any f (take i xs)
+    same-next f d l e = any-next f d l ∙ rw e (or-false (any f (take i xs)))
+
     pub none-next : (f : A → Bool) (d : A) → i < n → any f (take i xs) ≡ false → f (getD xs i d) ≡ false → any f (take (i + 1) xs) ≡ false
-    none-next f d l h e = rw (add-one i, take-suc xs i d (in-list l), any-end, h) e
+    none-next f d l h e = same-next f d l e ∙ h
 
     pub found : (f : A → Bool) (d : A) → i < n → f (getD xs i d) ≡ true → any f (take all xs) ≡ true
     found f d l e =
@@ -122,6 +141,17 @@ module _ {A : Type 0} where
 
     pub skip : {z : A} {us : List A} {k : ℕ} → Packed z f xs cap i us k → f (take i xs) (getD xs i d) ≡ false → Packed z f xs cap (i + 1) us k
     skip p h = record { behind = omega arith; places = rw (sifted-same h) (p .places); count = rw (sifted-same h) (p .count) }
+
+  -- a loop that goes backward
+  module _ {xs : List A} {cap all n i : ℕ} (w : Walk xs cap all n i) (f : List A → A → Bool) (d : A) (l : 0 < i) where
+    pub last-passes : f (take (i - 1) xs) (getD xs (i - 1) d) ≡ true → length (sifted f xs i) ≡ 0 → ⊥
+    last-passes h z =
+        let e : i - 1 + 1 ≡ i = omega arith in
+        let m = rw e at (sifted-more (walk-back w) f d (omega (arith, w .inside)) h) in
+        omega (arith, ap length m ∙ length-append (sifted f xs (i - 1)) (getD xs (i - 1) d ∷ []))
+
+    pub last-goes : f (take (i - 1) xs) (getD xs (i - 1) d) ≡ false → sifted f xs i ≡ sifted f xs (i - 1)
+    last-goes h = let e : i - 1 + 1 ≡ i = omega arith in rw e at (sifted-same (walk-back w) f d (omega (arith, w .inside)) h)
 
 -- ---- the bytes of a sequence
 

@@ -46,7 +46,7 @@ module _ (rows : List Row) (r : Row) where
   Passes a b = ((a ≡ r .owner) ⊎ Long a (r .owner)) × Long (r .owner) b × (waits rows r ≡ true)
 
   -- a link of the longer list is an old one, or one of the new row, which then waits
-  new-link : (a b : ℕ) → Link (rows ++ r ∷ []) a b → Link rows a b ⊎ ((a ≡ r .owner) × (waits rows r ≡ true))
+  pub new-link : (a b : ℕ) → Link (rows ++ r ∷ []) a b → Link rows a b ⊎ ((a ≡ r .owner) × (waits rows r ≡ true))
   unfolding waits
   new-link a b l =
       or-elim (linked (links [] rows) a b) (any (blocks a b r) rows) (λ e. inl (to-link rows a b e))

@@ -6,9 +6,14 @@ use mathlib.Core.List.{List}
 use lib.Dec.{eqb}
 use lib.ListN.{length, getD}
 use Rattle.locks.specs.Rows.{noRow, conflict}
-use Rattle.locks.specs.Chains.{Chain}
+use Rattle.locks.specs.Chains.{Link, Chain}
 use Rattle.locks.specs.declared.rows.Row.{Row}
 use Rattle.locks.specs.declared.search.Seen.{Seen}
+
+-- some owner has a link to c
+pub record InTheWay (rows : List Row) (c : ℕ) : Type 0 where
+  pub waiter : ℕ
+  pub link : Link rows waiter c
 
 -- ---- the rows, drawn as numbers: at place i the owner of row i; at place 33 w + a whether row a is in the way of row w
 

@@ -4,8 +4,8 @@ ghost use mathlib.Core.Bool.{not};
 ghost use mathlib.Core.List.{[], _∷_, _++_};
 ghost use Prim.Native.Nat.{min};
 ghost use lib.ListN.{length, take};
-ghost use Rattle.locks.specs.Lists.{sift, agree};
-ghost use Rattle.locks.specs.Rows.{noRow, rowsOf, laidRows, sameSequence, conflict, waits, twin, hasTwin, waitingOf, withoutTwin, withoutOwner, withoutWaiting, goes};
+ghost use Rattle.locks.specs.Lists.{sift, agree, isZero};
+ghost use Rattle.locks.specs.Rows.{noRow, rowsOf, laidRows, sameSequence, conflict, waits, twin, hasTwin, standingOf, waitingOf, withoutTwin, withoutOwner, withoutWaiting, goes};
 
 // A lock or a request for one: its sequence is the first `len` of the bytes, and zeros stand after them.
 pub struct Row {
@@ -114,6 +114,35 @@ pub fn has_twin(t: Table, r: Row) -> bool
     false
 }
 
+// How a request stands to the rows of the table.
+pub enum Standing {
+    Held,
+    Waits,
+    Free,
+}
+
+pub fn stands(t: Table, r: Row) -> Standing
+    ensures { λ x. ⌜ x ≡ standingOf (rowsOf t) r ⌝ }
+{
+    let n = least(t.used, 32);
+    let mut waiting = false;
+    let mut i: usize = 0;
+    while i < n {
+        let q = t.rows[i];
+        if twins(r, q) {
+            return Standing::Held;
+        }
+        if conflicts(r, q) {
+            waiting = true;
+        }
+        i += 1;
+    }
+    if waiting {
+        return Standing::Waits;
+    }
+    Standing::Free
+}
+
 // How many rows of that owner wait: in a sound state none or one.
 pub fn waiting_of(t: Table, owner: u16) -> usize
     ensures { λ k. ⌜ k ≡ length (waitingOf owner (rowsOf t)) ⌝ }
@@ -133,6 +162,23 @@ pub fn waiting_of(t: Table, owner: u16) -> usize
         i += 1;
     }
     k
+}
+
+// A row of that owner waits. A sleeper's row that waits is its last, so the loop goes backward.
+pub fn is_waiting(t: Table, owner: u16) -> bool
+    ensures { λ b. ⌜ b ≡ not (isZero (length (waitingOf owner (rowsOf t)))) ⌝ }
+{
+    let mut i = least(t.used, 32);
+    while 0 < i {
+        i -= 1;
+        if t.rows[i].owner == owner {
+            let q = t.rows[i];
+            if waits_behind(t, i, q) {
+                return true;
+            }
+        }
+    }
+    false
 }
 
 fn no_row() -> Row

@@ -10,10 +10,9 @@ ghost use mathlib.Core.Logic.{_↔_};
 ghost use mathlib.Core.List.{[], _∷_, _++_};
 ghost use Prim.Native.Nat.{_<_};
 ghost use lib.ListN.{getD};
-ghost use Rattle.locks.specs.Lists.{any};
-ghost use Rattle.locks.specs.Rows.{rowsOf, owns};
+ghost use Rattle.locks.specs.Rows.{rowsOf};
 ghost use Rattle.locks.specs.Chains.{Link, Chain};
-ghost use Rattle.locks.specs.Search.{Owners, Ways, RowLeads, Leads, placeOf, Searched};
+ghost use Rattle.locks.specs.Search.{InTheWay, Owners, Ways, RowLeads, Leads, placeOf, Searched};
 
 // Whether the chain closes, and if not, which processes are opened, each at the place of its first row.
 struct Seen {
@@ -174,25 +173,35 @@ fn owner_row<'a>(
     }
 }
 
-fn owns_row(t: Table, owner: u16) -> bool
-    ensures { λ b. ⌜ b ≡ any (owns owner) (rowsOf t) ⌝ }
+// A row of the table waits behind one of c.
+fn in_the_way(t: Table, c: u16) -> bool
+    ensures { λ b. ⌜ (b ≡ true) ↔ InTheWay (rowsOf t) c ⌝ }
 {
     let n = least(t.used, 32);
-    let mut i: usize = 0;
-    while i < n {
-        if t.rows[i].owner == owner {
-            return true;
+    let mut a: usize = 0;
+    while a < n {
+        if t.rows[a].owner == c {
+            let x = t.rows[a];
+            let mut w = a + 1;
+            while w < n {
+                let y = t.rows[w];
+                if conflicts(y, x) {
+                    return true;
+                }
+                w += 1;
+            }
         }
-        i += 1;
+        a += 1;
     }
     false
 }
 
-// With the new row r behind the table, a chain leads from it back to its owner. Nobody waits for an owner without rows.
+// With the new row r behind the table, a chain leads from it back to its owner. Such a chain ends with a row that waits behind one
+// of that owner.
 pub fn leads_back(t: Table, r: Row) -> bool
     ensures { λ b. ⌜ (b ≡ true) ↔ Chain (Link (rowsOf t ++ r ∷ [])) (r .owner) (r .owner) ⌝ }
 {
-    if !owns_row(t, r.owner) {
+    if !in_the_way(t, r.owner) {
         return false;
     }
     let owners = owners_of(t, r);

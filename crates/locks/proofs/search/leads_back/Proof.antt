@@ -12,11 +12,14 @@ use Rattle.locks.specs.declared.rows.Row.{Row}
 use Rattle.locks.proofs.Drawn.{in-use, asked-length, new-at}
 use Rattle.locks.proofs.Found.{found-exact, no-way-back}
 
-owns-row-requires : tie.Need-owns-row-requires
-owns-row-requires c κs = search needs
+in-the-way-requires : tie.Need-in-the-way-requires
+in-the-way-requires c κs = search needs
 
 returns : tie.Need-returns
-returns c = (λ h. absurd (false≢true h), λ ch. absurd (no-way-back (rowsOf (c .before .before .args .t)) (c .before .before .args .r) _ (sym (c .before .owns-row .ensures) ∙ not-true _ (c .if1 .taken)) ch))
+returns c =
+    let s = c .before in
+    let e = not-true _ (c .if1 .taken) in
+    (λ h. absurd (false≢true h), λ ch. absurd (no-way-back (rowsOf (s .before .args .t)) (s .before .args .r) (λ k. false≢true (sym e ∙ s .in-the-way .ensures .1 k)) ch))
 
 owners-of-requires : tie.Need-owners-of-requires
 owners-of-requires c κs = search needs
@@ -43,7 +46,7 @@ pub leads-back-spec : {M : Type 1} → statement M
 leads-back-spec =
     tie.close
     (tie.spec
-    owns-row-requires
+    in-the-way-requires
     returns
     owners-of-requires
     ways-of-requires
