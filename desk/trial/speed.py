@@ -4,6 +4,8 @@
 Usage: speed.py [EVENTS SEED]      (from the repository's root; wants rt and cc)
 Makes a random paper with the plain C model as its guide (few refusals), builds a bench of ours with `rt try`
 (nothing is proved by that), holds all answers of the two against each other, and prints nanoseconds an event.
+On aarch64 both programs are x86-64 and run under the kit's emulator (wants gcc-x86-64-linux-gnu): the ratio counts, not the
+nanoseconds. The emulator plays `rep movsb` byte by byte, so the C library is told there to copy by vectors, for both programs.
 """
 import ctypes, glob, os, random, shutil, struct, subprocess, sys, tempfile
 
@@ -11,8 +13,13 @@ root = os.getcwd()
 desk = os.path.join(root, "desk")
 n, seed = (int(a) for a in sys.argv[1:3]) if len(sys.argv) > 2 else (1000, 1)
 work = tempfile.mkdtemp()
+native = os.uname().machine == "x86_64"
+kit = os.path.dirname(os.path.dirname(os.path.realpath(shutil.which("rt"))))
+emulator = [] if native else [f"{kit}/on/{os.uname().machine}/toolchain/bin/qemu-x86_64"]
+loader = [] if native else [f"{kit}/toolchain/lib/ld-linux-x86-64.so.2", "--library-path", f"{kit}/toolchain/lib"]
+if not native: os.environ["GLIBC_TUNABLES"] = "glibc.cpu.x86_rep_movsb_threshold=1000000000:glibc.cpu.x86_rep_stosb_threshold=1000000000"
 subprocess.check_call(["cc", "-O2", "-shared", "-fPIC", "-o", f"{work}/plain.so", f"{desk}/plain/model.c"])
-subprocess.check_call(["cc", "-O2", f"-I{desk}/plain", "-o", f"{work}/cbench", f"{desk}/trial/bench.c", f"{desk}/plain/model.c"])
+subprocess.check_call((["cc"] if native else ["x86_64-linux-gnu-gcc", "-static"]) + ["-O2", f"-I{desk}/plain", "-o", f"{work}/cbench", f"{desk}/trial/bench.c", f"{desk}/plain/model.c"])
 plain = ctypes.CDLL(f"{work}/plain.so")
 
 class Event(ctypes.Structure):
@@ -98,15 +105,16 @@ def user(program, name):
     best = 9e9
     for _ in range(7):
         t = os.times().children_user
-        subprocess.run([program], stdin=open(name), stdout=subprocess.DEVNULL)
+        subprocess.run(program, stdin=open(name), stdout=subprocess.DEVNULL)
         best = min(best, os.times().children_user - t)
     return best
 
-ours, plainc = bench(), f"{work}/cbench"
-out = [subprocess.run([p], stdin=open(f"{work}/in3"), capture_output=True).stdout for p in (ours, plainc)]
+ours, plainc = emulator + loader + [bench()], emulator + [f"{work}/cbench"]
+out = [subprocess.run(p, stdin=open(f"{work}/in3"), capture_output=True).stdout for p in (ours, plainc)]
 print("answers:", "the same" if out[0] == out[1] else "DIFFERENT")
-c = user(plainc, stdin("c", 1, 20000)) / 20000 / n * 1e9
-for name, mode, rounds in (("advance", 1, 2000), ("step", 2, 1000)):
+slower = 1 if native else 10
+c = user(plainc, stdin("c", 1, 20000 // slower)) / (20000 // slower) / n * 1e9
+for name, mode, rounds in (("advance", 1, 2000 // slower), ("step", 2, 1000 // slower)):
     t = user(ours, stdin("o", mode, rounds)) / rounds / n * 1e9
     print(f"{name}: {t:.0f} ns an event, {t / c:.1f} times the plain C model's {c:.1f} ns")
 shutil.rmtree(work)

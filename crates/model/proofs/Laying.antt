@@ -4,15 +4,15 @@ use native.Mathlib.Omega.{arith}
 use mathlib.Core.Path.{_≡_, refl, sym, ap, _∙_, subst}
 use native.Mathlib.Nat.{le-trans}
 use native.Mathlib.Numerals.{add-one}
-use mathlib.Core.Bool.{false, not, and-false}
+use mathlib.Core.Bool.{Bool, true, false, not, and-false}
 use mathlib.Core.List.{List, [], _∷_, _++_, map}
 use lib.ListN.{length, getD, take, drop, replicate, length-append, length-map, length-replicate, List·getD-map}
 use lib.Seq.{take-append-seam, drop-append-seam, set-append-left, take-suc}
-use Rattle.locks.specs.Lists.{padded, keep, member}
+use Rattle.locks.specs.Lists.{padded, keep, member, isZero}
 use Rattle.locks.proofs.Lists.{any-end}
 use lib.Dec.{eqb}
 use Rattle.locks.proofs.Fewer.{Fewer, fewer-keep, fewer-length}
-use borrow.Author.Tests.{eq-eqb, ne-eqb}
+use borrow.Author.Tests.{eq-eqb, ne-eqb, not-true, not-false}
 use Rattle.locks.proofs.Loops.{Walk, walk-start, walk-next, walk-end, Packed, pack, skip, sifted, keep-sift}
 use Rattle.rules.specs.Signals.{gone, arrives}
 use Rattle.rules.specs.Clock.{slept, rings, alarms, ticked}
@@ -216,13 +216,18 @@ module _ (rows : List Row) (p : Process) where
   unfolding granted
   not-asleep h = rw (ne-eqb (p .rest .sleep) 2 h)
 
-  pub still-waits : {k : ℕ} → k ≡ length (waitingOf (p .pid) rows) → (k ≡ 0 → ⊥) → granted rows p ≡ p
-  unfolding granted
-  still-waits {k} e h = rw (← e, ne-eqb k 0 h, and-false (eqb (p .rest .sleep) 2))
+  module _ {b : Bool} (e : b ≡ not (isZero (length (waitingOf (p .pid) rows)))) where
+    pub still-waits : not b ≡ false → granted rows p ≡ p
+    unfolding granted
+    still-waits h =
+        let z : isZero (length (waitingOf (p .pid) rows)) ≡ false = not-true (isZero (length (waitingOf (p .pid) rows))) (sym e ∙ not-false b h) in
+        rw (z, and-false (eqb (p .rest .sleep) 2))
 
-  pub wakes : {k : ℕ} {q : Process} → p .rest .sleep ≡ 2 → k ≡ length (waitingOf (p .pid) rows) → k ≡ 0 → q ≡ wokenBy 1 0 p → q ≡ granted rows p
-  unfolding granted
-  wakes {k} z e h g = rw (eq-eqb (p .rest .sleep) 2 z, ← e, eq-eqb k 0 h) g
+    pub wakes : {q : Process} → p .rest .sleep ≡ 2 → not b ≡ true → q ≡ wokenBy 1 0 p → q ≡ granted rows p
+    unfolding granted
+    wakes z h g =
+        let n : isZero (length (waitingOf (p .pid) rows)) ≡ true = not-false (isZero (length (waitingOf (p .pid) rows))) (sym e ∙ not-true b h) in
+        rw (eq-eqb (p .rest .sleep) 2 z, n) g
 
 pub not-timed : (p : Process) → (p .rest .sleep ≡ 3 → ⊥) → slept p ≡ p
 unfolding slept

@@ -3,17 +3,19 @@ use Prim.Native.Nat.{ℕ, _+_, _≤_, _<_}
 use native.Mathlib.Nat.{le-trans}
 use native.Mathlib.Omega.{arith}
 use mathlib.Core.Path.{_≡_, refl, sym, ap, _∙_}
-use mathlib.Core.Bool.{Bool, true, false, not, _&&_, _||_, and-false, true≢false}
+use mathlib.Core.Bool.{Bool, true, false, cond, not, _&&_, _||_, and-false, true≢false}
 use mathlib.Core.Logic.{_↔_}
 use mathlib.Core.List.{List, [], _∷_, _++_}
 use lib.ListN.{length, set, length-append}
 use lib.Dec.{eqb, leb, ltb}
 use borrow.Author.Tests.{le-leb, lt-leb, le-ltb, leb-true, eq-eqb, ne-eqb, not-false}
 use Rattle.locks.specs.Lists.{padded, between, mask}
-use Rattle.locks.specs.Rows.{noRow, rowsOf, laidRows, waits, twin, hasTwin, withoutTwin}
+use Rattle.locks.specs.Rows.{noRow, rowsOf, laidRows, standingOf, waits, twin, hasTwin, withoutTwin}
 use Rattle.locks.specs.Chains.{Link, Chain, leadsBack}
 use Rattle.locks.specs.declared.rows.Row.{Row}
 use Rattle.locks.specs.declared.rows.Table.{Table}
+use Rattle.locks.specs.declared.rows.Standing.{Standing}
+use Rattle.locks.specs.declared.rows.Standing.the-variants.{Held, Waits, Free}
 use Rattle.locks.proofs.Tests.{off, and-split, or-off}
 use Rattle.locks.proofs.Fewer.{fewer-keep, fewer-length}
 use Rattle.locks.proofs.Loops.{padded-more}
@@ -146,6 +148,37 @@ caller-fits c = let h = c .stands in let k = c .lays .live in omega arith
 pub leads-exact : {b : Bool} (rows : List Row) (r : Row) → (b ≡ true) ↔ Chain (Link (rows ++ r ∷ [])) (r .owner) (r .owner) → b ≡ leadsBack rows r
 leads-exact {b = true} rows r h = sym (deadlock-exact rows r .1 (h .0 refl))
 leads-exact {b = false} rows r h = sym (off (leadsBack rows r) (λ x. true≢false (sym (h .1 (deadlock-exact rows r .0 x)))))
+
+-- what the standing of a request tells
+abbrev isHeld : Standing → Bool
+isHeld Held = true
+isHeld Waits = false
+isHeld Free = false
+
+abbrev isWaiting : Standing → Bool
+isWaiting Held = false
+isWaiting Waits = true
+isWaiting Free = false
+
+module _ (rows : List Row) (r : Row) {x : Standing} (e : x ≡ standingOf rows r) where
+  pub stands-twin : hasTwin r rows ≡ isHeld x
+  unfolding standingOf
+  stands-twin = go (hasTwin r rows) (waits rows r) ∙ ap isHeld (sym e)
+    where
+      go : (a b : Bool) → a ≡ isHeld (cond a Held (cond b Waits Free))
+      go true b = refl
+      go false true = refl
+      go false false = refl
+
+  pub stands-waits : hasTwin r rows ≡ false → waits rows r ≡ isWaiting x
+  unfolding standingOf
+  stands-waits h =
+      let f : x ≡ cond (waits rows r) Waits Free = e ∙ rw h in
+      go (waits rows r) ∙ ap isWaiting (sym f)
+    where
+      go : (b : Bool) → b ≡ isWaiting (cond b Waits Free)
+      go true = refl
+      go false = refl
 
 -- neither locked nor deadlock
 pub record Passes (rows : List Row) (e : Event) (r : Row) : Type 0 where

@@ -108,13 +108,11 @@ fn lock_row(t: Table, p: Process, e: Event, r: Row) -> Locked
     requires { ⌜ t .used ≤ 32 ⌝ }
     ensures { λ x. ⌜ LockedAs t p (lockRow p e r) x ⌝ }
 {
-    if has_twin(t, r) {
-        return not_locked(HELD, p, t);
+    match stands(t, r) {
+        Standing::Held => not_locked(HELD, p, t),
+        Standing::Waits => wait_row(t, p, e, r),
+        Standing::Free => queue(t, p, r, false),
     }
-    if waits(t, r) {
-        return wait_row(t, p, e, r);
-    }
-    queue(t, p, r, false)
 }
 
 pub(crate) fn lock(t: Table, p: Process, e: Event) -> Locked

@@ -84,7 +84,7 @@ pub(crate) fn rows_left(mut s: State, t: Table) -> Stepped
     while i < s.live {
         if s.procs[i].rest.sleep == 2 {
             let p = s.procs[i];
-            if waiting_of(t, p.pid) == 0 {
+            if !is_waiting(t, p.pid) {
                 s.procs[i] = woken_by(p, 1, 0);
                 woken += bit;
             }

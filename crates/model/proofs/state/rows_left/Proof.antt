@@ -10,7 +10,6 @@ use Rattle.rules.specs.State.{view, granted, rowsLeft}
 use Rattle.model.specs.Laid.{masked}
 use Rattle.model.proofs.Sweep.{Sweeping, sweeping, sweep-woken, sweep-same, swept}
 use Rattle.model.proofs.Laying.{not-asleep, still-waits, wakes}
-use Rattle.locks.proofs.rows.waiting_of.Reads as waiting-of-reads
 use Rattle.model.proofs.answers.with_masks.Reads as with-masks-reads
 use Rattle.processes.proofs.woken_by.Reads as woken-by-reads
 
@@ -35,14 +34,14 @@ mul-p c = search needs
 element-copy-out-p : tie.Need-element-copy-out-p Inv-loop μ-loop
 element-copy-out-p c = search needs
 
-waiting-of-requires : tie.Need-waiting-of-requires Inv-loop μ-loop
-waiting-of-requires c κs = search needs
+is-waiting-requires : tie.Need-is-waiting-requires Inv-loop μ-loop
+is-waiting-requires c κs = search needs
 
 woken-by-requires : tie.Need-woken-by-requires Inv-loop μ-loop
 woken-by-requires c κs = search needs
 
-mul-t19 : tie.Need-mul-t19 Inv-loop μ-loop
-mul-t19 c = search needs
+mul-t20 : tie.Need-mul-t20 Inv-loop μ-loop
+mul-t20 c = search needs
 
 element-set-from-s : tie.Need-element-set-from-s Inv-loop μ-loop
 element-set-from-s c = search needs
@@ -63,7 +62,7 @@ loop-again : tie.Need-loop-again Inv-loop μ-loop
 loop-again c =
     let v = c .before .before .loop .inv in
     let l = c .before .loop-test .taken in
-    ⊎-elim (λ w. rw (w .5, w .6) (sweep-woken v _ l (wakes _ _ (w .0 .taken) (w .2 .ensures) (w .3 .taken) (w .4 .ensures)) (rw (w .0 .taken)) (rw (w .4 .ensures))))
+    ⊎-elim (λ w. rw (w .5, w .6) (sweep-woken v _ l (wakes _ _ (w .2 .ensures) (w .0 .taken) (w .3 .taken) (w .4 .ensures)) (rw (w .0 .taken)) (rw (w .4 .ensures))))
     (⊎-elim (λ w. rw (w .4, w .5) (sweep-same v _ l (still-waits _ _ (w .2 .ensures) (w .3 .left)))) (λ w. rw (w .1, w .2) (sweep-same v _ l (not-asleep _ _ (w .0 .left))))) (c .if1 .came)
 
 cast-with-masks : tie.Need-cast-with-masks Inv-loop μ-loop
@@ -90,9 +89,9 @@ rows-left-spec =
     element-copy-out-if1
     mul-p
     element-copy-out-p
-    waiting-of-requires
+    is-waiting-requires
     woken-by-requires
-    mul-t19
+    mul-t20
     element-set-from-s
     add-woken
     mul-bit
