@@ -112,7 +112,7 @@ unfolding apart
 apart-end [] q = refl
 apart-end (r ∷ rows) q = rw (any-end (λ x. twin x r) rows q, apart-end rows q) (regroup (any (λ x. twin x r) rows) (twin q r) (apart rows) (any (twin q) rows))
 
-fewer-take : {A : Type 0} (i : ℕ) (xs : List A) → Fewer (take i xs) xs
+pub fewer-take : {A : Type 0} (i : ℕ) (xs : List A) → Fewer (take i xs) xs
 fewer-take zero [] = nil
 fewer-take zero (x ∷ xs) = gone (fewer-take zero xs)
 fewer-take (suc i) [] = nil

@@ -1,3 +1,7 @@
 pub mod Loops
 pub mod Laws
+pub mod Words
+pub mod Meeting
 pub mod Waiting
+pub mod Owners
+pub mod Whole

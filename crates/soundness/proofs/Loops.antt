@@ -48,7 +48,7 @@ module _ {A : Type 0} where
 
 -- ---- a loop that sums the elements from a place on, to learn whether all are zero
 
-zero-sum : (a b : ℕ) → isZero (a + b) ≡ (isZero a && isZero b)
+pub zero-sum : (a b : ℕ) → isZero (a + b) ≡ (isZero a && isZero b)
 zero-sum a b =
     cases (eqb a 0) (λ e. let z : a ≡ 0 = eqb-true a 0 e in let m : a + b ≡ b = omega arith in rw (m, e))
     (λ e. let d : a ≡ 0 → ⊥ = eqb-false a 0 e in let m : a + b ≡ 0 → ⊥ = λ h. d (omega arith) in rw (ne-eqb (a + b) 0 m, e))

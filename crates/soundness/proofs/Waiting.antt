@@ -1,181 +1,222 @@
--- The rows that wait, found in one pass over pairs of rows. Assumes nothing.
-use Prim.Native.Nat.{ℕ, zero, suc, _+_, _-_, _/_, _≤_, _<_}
+-- The rows that wait, found in one pass over the rows. Assumes nothing.
+use Prim.Native.Nat.{ℕ, zero, suc, _+_, _-_, _≤_, _<_}
 use native.Mathlib.Nat.{not-suc-le-zero}
 use native.Mathlib.Omega.{arith}
 use native.Mathlib.Numerals.{add-one}
 use mathlib.Core.Path.{_≡_, refl, sym, ap, _∙_}
-use mathlib.Core.Bool.{Bool, true, false, _||_, and-false, or-false, or-true, false≢true}
+use mathlib.Core.Bool.{Bool, true, false, _&&_, _||_, and-false, or-false, or-true, false≢true}
 use mathlib.Core.List.{List, [], _∷_, _++_, map, map-append}
-use lib.Dec.{eqb, leb}
-use lib.ListN.{length, getD, take, set, replicate, length-map, length-append, length-set}
-use lib.Seq.{take-suc, take-at, getD-take, getD-set-same, getD-set-other}
-use borrow.Author.Tests.{eqb-true, eqb-false, leb-true}
-use Rattle.locks.specs.Lists.{any, keep, sift, padded, agree}
-use Rattle.locks.specs.Rows.{sameSequence, conflict, twin, owns, waits, waitsOf, waitingOf, apart}
+use lib.Dec.{eqb}
+use lib.ListN.{length, getD, take, set, replicate, getD-replicate, length-map, length-append, length-set}
+use lib.Seq.{take-suc, take-at, getD-take, length-take-le, getD-set-same, getD-set-other}
+use borrow.Author.Tests.{eqb-true, eqb-false}
+use Rattle.locks.specs.Lists.{any, all, keep, sift, padded}
+use Rattle.locks.specs.Rows.{twin, waits, waitsOf, waitingOf, apart}
 use Rattle.locks.specs.declared.rows.Row.{Row}
-use Rattle.locks.proofs.Tests.{cases, off, and-split}
-use Rattle.locks.proofs.Lists.{some-any, any-end}
+use Rattle.locks.proofs.Tests.{cases, off, and-split, and-join}
+use Rattle.locks.proofs.Lists.{any-end, all-end}
 use Rattle.locks.proofs.Loops.{Walk, walk-start, walk-next, walk-end, in-list, done-length, padded-more, sifted, sifted-more, sifted-same, sifted-room}
 use Rattle.rules.specs.Sound.{lockFits, soundProcess}
 use Rattle.rules.specs.declared.state.Process.{Process}
-use Rattle.soundness.specs.Waiting.{keyBytes, keyOf, ownerOf, Waiting, soundWaiting}
+use Rattle.soundness.specs.Waiting.{fitRow, Told, Note, blank, Noted, meeting, ownerOf, Waiting, soundWaiting}
+use Rattle.soundness.specs.declared.rows.Words.{Words}
 use Rattle.soundness.specs.declared.rows.Waiters.{Waiters}
 use Rattle.soundness.proofs.Laws.{apart-more, not-apart}
+use Rattle.soundness.proofs.Meeting.{firstOf, hasFirst, new-alone, new-holds}
 
--- ---- keys
+-- ---- how a row stands, by the number that tells it
 
-agree-at : (n : ℕ) (x y : List ℕ) → agree n x y ≡ true → (i : ℕ) → i < n → getD x i 0 ≡ getD y i 0
-unfolding agree
-agree-at zero x y h i l = absurd (not-suc-le-zero l)
-agree-at (suc n) x y h i l =
-    let s = and-split (agree n x y) (eqb (getD x n 0) (getD y n 0)) h in
-    cases (eqb i n) (λ e. rw (eqb-true i n e) (eqb-true (getD x n 0) (getD y n 0) (s .1)))
-    (λ e. let d : i ≡ n → ⊥ = eqb-false i n e in agree-at n x y (s .0) i (omega arith))
+pub record Stands (r : Row) (ahead : List Row) (waiting : Bool) : Type 0 where
+  pub alone : any (twin r) ahead ≡ false
+  pub found : waits ahead r ≡ waiting
 
-same-bytes-key : (n : ℕ) (x y : List ℕ) → agree n x y ≡ true → keyBytes n x ≡ keyBytes n y
-unfolding keyBytes
-same-bytes-key n x y h =
-    cases (leb 1 n)
-    (λ e.
-    let l : 1 ≤ n = leb-true 1 n e in
-    rw (agree-at n x y h 0 (omega arith), agree-at n x y h (n / 2) (omega arith), agree-at n x y h (n - 1) (omega arith)))
-    (λ e. rw e)
+module _ (r : Row) (ahead : List Row) {m : ℕ} (e : m ≡ meeting r ahead) where
+  pub met-twin : m ≡ 2 → any (twin r) ahead ≡ true
+  unfolding meeting
+  met-twin h =
+      cases (any (twin r) ahead) (λ a. a)
+      (λ a. cases (waits ahead r) (λ b. let k : m ≡ 1 = e ∙ rw (a, b) in absurd (omega arith)) (λ b. let k : m ≡ 0 = e ∙ rw (a, b) in absurd (omega arith)))
 
-module _ (r q : Row) (d : keyOf q ≡ keyOf r → ⊥) where
-  different : sameSequence r q ≡ false
-  unfolding sameSequence
-  different =
-      off (sameSequence r q)
-      (λ h.
-      let s = and-split (eqb (r .len) (q .len)) (agree (r .len) (r .bytes) (q .bytes)) h in
-      d (sym (same-bytes-key (r .len) (r .bytes) (q .bytes) (s .1) ∙ ap (λ n. keyBytes n (q .bytes)) (eqb-true (r .len) (q .len) (s .0)))))
+  met-none : (m ≡ 2 → ⊥) → any (twin r) ahead ≡ false
+  unfolding meeting
+  met-none h = off (any (twin r) ahead) (λ a. h (e ∙ rw a))
 
-  not-twin : twin r q ≡ false
-  unfolding twin
-  not-twin = rw different (and-false (owns (r .owner) q))
+  pub met-waits : (m ≡ 2 → ⊥) → m ≡ 1 → Stands r ahead true
+  unfolding meeting
+  met-waits h k = record {
+    alone = met-none h;
+    found = cases (waits ahead r) (λ b. b) (λ b. let z : m ≡ 0 = e ∙ rw (met-none h, b) in absurd (omega arith));
+  }
 
-  not-conflict : conflict r q ≡ false
-  unfolding conflict
-  not-conflict = rw different
-
--- ---- row r against the rows ahead of place a
-
-pub record Against (rows : List Row) (r : Row) (i a : ℕ) (waiting : Bool) : Type 0 where
-  pub inside : a ≤ i
-  pub alone : any (twin r) (take a rows) ≡ false
-  pub found : waiting ≡ any (conflict r) (take a rows)
-
-pub against-none : (rows : List Row) (r : Row) (i : ℕ) → Against rows r i 0 false
-against-none rows r i = record { inside = omega arith; alone = refl; found = refl }
-
-module _ {rows : List Row} {r : Row} {i a : ℕ} {waiting : Bool} (p : Against rows r i a waiting) (d : Row) (l : a < i) (k : a < length rows) where
-  more : (f : Row → Bool) → any f (take (a + 1) rows) ≡ (any f (take a rows) || f (getD rows a d))
-  more f = rw (add-one a, take-suc rows a d k) (any-end f (take a rows) (getD rows a d))
-
-  against-more : {w : Bool} → twin r (getD rows a d) ≡ false → w ≡ (waiting || conflict r (getD rows a d)) → Against rows r i (a + 1) w
-  against-more e h = record { inside = omega arith; alone = rw (more (twin r), p .alone, e); found = h ∙ rw (more (conflict r), ← p .found) }
-
-  pub against-waits : {w : Bool} → twin r (getD rows a d) ≡ false → conflict r (getD rows a d) ≡ true → w ≡ true → Against rows r i (a + 1) w
-  against-waits e f h = against-more e (h ∙ rw f (sym (or-true waiting)))
-
-  pub against-passes : {w : Bool} → twin r (getD rows a d) ≡ false → conflict r (getD rows a d) ≡ false → w ≡ waiting → Against rows r i (a + 1) w
-  against-passes e f h = against-more e (h ∙ rw f (sym (or-false waiting)))
-
-  pub against-other : {w : Bool} → (keyOf (getD rows a d) ≡ keyOf r → ⊥) → w ≡ waiting → Against rows r i (a + 1) w
-  against-other e h = against-passes (not-twin r (getD rows a d) e) (not-conflict r (getD rows a d) e) h
+  pub met-holds : (m ≡ 2 → ⊥) → (m ≡ 1 → ⊥) → Stands r ahead false
+  unfolding meeting
+  met-holds h k = record { alone = met-none h; found = off (waits ahead r) (λ b. k (e ∙ rw (met-none h, b))) }
 
 -- ---- the first i rows
 
--- what a read past the array's end would give
-abbrev pub blank : Row
-blank = record { owner = 0; shared = false; len = 0; bytes = [] }
-
-pub record Watched (rows : List Row) (d : Row) (used i : ℕ) (keys owners : List ℕ) (count : ℕ) : Type 0 where
+pub record Watched (rows : List Row) (used i : ℕ) (seen : List Bool) (lows highs lens : List ℕ) (shared : List Bool) (every owners : List ℕ) (count : ℕ) : Type 0 where
   pub walk : Walk rows 32 used used i
   pub alone : apart (take i rows) ≡ true
-  pub sized : length keys ≡ 32
-  pub keyed : (a : ℕ) → a < i → getD keys a 0 ≡ keyOf (getD rows a d)
+  pub fit : all fitRow (take i rows) ≡ true
+  pub noted : Noted rows i lows highs lens every shared
+  pub low-size : length lows ≡ 32
+  pub high-size : length highs ≡ 32
+  pub len-size : length lens ≡ 32
+  pub shared-size : length shared ≡ 32
+  pub every-size : length every ≡ 32
+  pub seen-size : length seen ≡ 256
+  pub firsts : (b : ℕ) → b < 256 → getD seen b false ≡ hasFirst b (take i rows)
+  pub whole : every ≡ padded 32 0 (map ownerOf (take i rows))
   pub places : owners ≡ padded 32 0 (map ownerOf (sifted waits rows i))
   pub counted : count ≡ length (sifted waits rows i)
   pub behind : count ≤ i
 
-pub watched-none : (rows : List Row) (d : Row) (used : ℕ) → length rows ≡ 32 → used ≤ 32 → Watched rows d used 0 (replicate 32 0) (replicate 32 0) 0
+pub watched-none : (rows : List Row) (used : ℕ) → length rows ≡ 32 → used ≤ 32
+    → Watched rows used 0 (replicate 256 false) (replicate 32 0) (replicate 32 0) (replicate 32 0) (replicate 32 false) (replicate 32 0) (replicate 32 0) 0
 unfolding padded apart
-watched-none rows d used h l = record {
+watched-none rows used h l = record {
   walk = walk-start rows 32 used used h (omega arith);
   alone = refl;
-  sized = refl;
-  keyed = λ a m. absurd (not-suc-le-zero m);
+  fit = refl;
+  noted = record { inside = omega arith; each = λ a m. absurd (not-suc-le-zero m) };
+  low-size = refl;
+  high-size = refl;
+  len-size = refl;
+  shared-size = refl;
+  every-size = refl;
+  seen-size = refl;
+  firsts = λ b m. getD-replicate 256 b false false m;
+  whole = refl;
   places = refl;
   counted = refl;
   behind = omega arith;
 }
 
-module _ {rows : List Row} {d : Row} {used i : ℕ} {keys owners : List ℕ} {count : ℕ} (p : Watched rows d used i keys owners count) where
+-- a Waiters that says no
+pub refused : (rows : List Row) {owners every : List ℕ} → (all fitRow rows && apart rows) ≡ false → Waiting rows (record { apart = false; count = 0; owners = owners; all = every })
+refused rows h = record { alone = sym h; few = omega arith; them = λ e. absurd (false≢true e); everyone = λ e. absurd (false≢true e) }
+
+all-get : {A : Type 0} (f : A → Bool) (xs : List A) (d : A) (i : ℕ) → all f xs ≡ true → i < length xs → f (getD xs i d) ≡ true
+all-get f [] d i h l = absurd (not-suc-le-zero l)
+all-get f (x ∷ xs) d zero h l = and-split (f x) (all f xs) h .0
+all-get f (x ∷ xs) d (suc i) h l = all-get f xs d i (and-split (f x) (all f xs) h .1) (omega arith)
+
+module _ {rows : List Row} {used i : ℕ} {seen : List Bool} {lows highs lens : List ℕ} {shared : List Bool} {every owners : List ℕ} {count : ℕ}
+    (p : Watched rows used i seen lows highs lens shared every owners count) where
   module _ (l : i < used) where
-    -- a row ahead of row i stands in the list
-    pub in-rows : {a : ℕ} → a < i → a < length rows
-    in-rows {a} m = let k : i < length rows = in-list (p .walk) l in omega arith
+    inside : i < length rows
+    inside = in-list (p .walk) l
 
-    pub twin-found : {a : ℕ} → a < i → twin (getD rows i d) (getD rows a d) ≡ true → apart (take used rows) ≡ false
-    twin-found {a} m e =
-        not-apart (p .walk) d l
-        (some-any (twin (getD rows i d)) (take i rows) d a (rw (done-length (p .walk)) m) (rw (getD-take i rows a d m) e))
+    pub not-fit : fitRow (getD rows i blank) ≡ false → (all fitRow (take used rows) && apart (take used rows)) ≡ false
+    not-fit e =
+        let n : used ≤ length rows = omega (arith, p .walk .fits, p .walk .long) in
+        let k : all fitRow (take used rows) ≡ false =
+        off (all fitRow (take used rows))
+        (λ h.
+        false≢true (sym e ∙ sym (ap fitRow (getD-take used rows i blank l)) ∙ all-get fitRow (take used rows) blank i h (rw (length-take-le used rows n) l))) in
+        rw k
 
-    module _ {a : ℕ} {waiting : Bool} (q : Against rows (getD rows i d) i a waiting) (m : i ≤ a) {key : ℕ} (told : key ≡ keyOf (getD rows i d)) where
-      whole : a ≡ i
-      whole = omega (arith, q .inside)
+    pub twin-found : any (twin (getD rows i blank)) (take i rows) ≡ true → (all fitRow (take used rows) && apart (take used rows)) ≡ false
+    twin-found e = rw (not-apart (p .walk) blank l e) (and-false (all fitRow (take used rows)))
 
-      waits-told : waiting ≡ waits (take i rows) (getD rows i d)
-      unfolding waits
-      waits-told = q .found ∙ ap (λ n. any (conflict (getD rows i d)) (take n rows)) whole
+    pub new-first : fitRow (getD rows i blank) ≡ true → firstOf (getD rows i blank) < 256 → getD seen (firstOf (getD rows i blank)) false ≡ false → Stands (getD rows i blank) (take i rows) false
+    new-first f m e =
+        let n = sym (p .firsts (firstOf (getD rows i blank)) m) ∙ e in
+        record { alone = new-alone (getD rows i blank) f (take i rows) n; found = new-holds (getD rows i blank) f (take i rows) n }
 
-      apart-told : apart (take (i + 1) rows) ≡ true
-      apart-told = apart-more (p .walk) d l (p .alone) (sym (ap (λ n. any (twin (getD rows i d)) (take n rows)) whole) ∙ q .alone)
+    module _ {w : Words} (t : Told (getD rows i blank) w) (m : firstOf (getD rows i blank) < 256) where
+      more : {A : Type 0} (f : Row → A) (z : A) → set (padded 32 z (map f (take i rows))) i (f (getD rows i blank)) ≡ padded 32 z (map f (take (i + 1) rows))
+      more f z =
+          let e : map f (take (i + 1) rows) ≡ map f (take i rows) ++ f (getD rows i blank) ∷ [] =
+          rw (add-one i, take-suc rows i blank inside) (map-append f (take i rows) (getD rows i blank ∷ [])) in
+          rw e (padded-more 32 i z (map f (take i rows)) (f (getD rows i blank)) (rw length-map (done-length (p .walk))) (omega (arith, p .walk .fits)))
 
-      key-told : (b : ℕ) → b < i + 1 → getD (set keys i key) b 0 ≡ keyOf (getD rows b d)
-      key-told b n =
-          let k : i < length keys = rw (p .sized) (omega (arith, p .walk .fits)) in
-          cases (eqb b i) (λ e. rw (eqb-true b i e) (getD-set-same keys i key 0 k ∙ told))
-          (λ e.
-          let u : b ≡ i → ⊥ = eqb-false b i e in
-          getD-set-other keys i b key 0 u ∙ p .keyed b (omega arith))
+      first-told : (b : ℕ) → b < 256 → getD (set seen (firstOf (getD rows i blank)) true) b false ≡ hasFirst b (take (i + 1) rows)
+      first-told b n =
+          let f = firstOf (getD rows i blank) in
+          let e : hasFirst b (take (i + 1) rows) ≡ (hasFirst b (take i rows) || eqb f b) =
+          rw (add-one i, take-suc rows i blank inside) (any-end (λ q. eqb (firstOf q) b) (take i rows) (getD rows i blank)) in
+          cases (eqb f b)
+          (λ h. ap (λ x. getD (set seen f true) x false) (sym (eqb-true f b h)) ∙ getD-set-same seen f true false (rw (p .seen-size) m) ∙ sym (e ∙ rw (h, or-true)))
+          (λ h.
+          let d : f ≡ b → ⊥ = eqb-false f b h in
+          getD-set-other seen f b true false (λ x. d (sym x)) ∙ p .firsts b n ∙ sym (e ∙ rw (h, or-false)))
 
-      pub watched-waits : waiting ≡ true → Watched rows d used (i + 1) (set keys i key) (set owners count (getD rows i d .owner)) (count + 1)
-      watched-waits e =
-          let s = sifted-more (p .walk) waits d l (sym waits-told ∙ e) in
-          let n : length (map ownerOf (sifted waits rows i)) ≡ count = rw length-map (sym (p .counted)) in
-          let room : count < 32 = rw (p .counted) (sifted-room (p .walk) waits d l) in record {
-            walk = walk-next (p .walk) l;
-            alone = apart-told;
-            sized = length-set keys i key ∙ p .sized;
-            keyed = key-told;
-            places = rw (s, map-append ownerOf (sifted waits rows i) (getD rows i d ∷ []), p .places) (padded-more 32 count 0 (map ownerOf (sifted waits rows i)) (getD rows i d .owner) n room);
-            counted = rw (s, length-append, p .counted);
-            behind = omega (arith, p .behind);
+      noted-more : Noted rows (i + 1) (set lows i (w .low)) (set highs i (w .high)) (set lens i (getD rows i blank .len)) (set every i (getD rows i blank .owner)) (set shared i (getD rows i blank .shared))
+      noted-more =
+          let k : i < 32 = omega (arith, p .walk .fits) in record {
+            inside = omega (arith, inside);
+            each = λ a n. cases (eqb a i)
+                (λ h. rw
+                (eqb-true a i h,
+                getD-set-same lows i (w .low) 0 (rw (p .low-size) k),
+                getD-set-same highs i (w .high) 0 (rw (p .high-size) k),
+                getD-set-same lens i (getD rows i blank .len) 0 (rw (p .len-size) k),
+                getD-set-same every i (getD rows i blank .owner) 0 (rw (p .every-size) k),
+                getD-set-same shared i (getD rows i blank .shared) false (rw (p .shared-size) k))
+                (record { row = t; long = refl; from = refl; kind = refl }))
+                (λ h.
+                let d : a ≡ i → ⊥ = eqb-false a i h in
+                rw
+                (getD-set-other lows i a (w .low) 0 d,
+                getD-set-other highs i a (w .high) 0 d,
+                getD-set-other lens i a (getD rows i blank .len) 0 d,
+                getD-set-other every i a (getD rows i blank .owner) 0 d,
+                getD-set-other shared i a (getD rows i blank .shared) false d)
+                (p .noted .each a (omega arith)));
           }
 
-      pub watched-holds : waiting ≡ false → Watched rows d used (i + 1) (set keys i key) owners count
-      watched-holds e = let s = sifted-same (p .walk) waits d l (sym waits-told ∙ e) in record {
+      fit-more : all fitRow (take (i + 1) rows) ≡ true
+      fit-more = rw (add-one i, take-suc rows i blank inside) (all-end fitRow (take i rows) (getD rows i blank) (p .fit) (t .fit))
+
+      abbrev Next : List ℕ → ℕ → Type 0
+      Next = Watched rows used (i + 1) (set seen (firstOf (getD rows i blank)) true) (set lows i (w .low)) (set highs i (w .high)) (set lens i (getD rows i blank .len))
+          (set shared i (getD rows i blank .shared)) (set every i (getD rows i blank .owner))
+
+      next : {waiting : Bool} {to : List ℕ} {n : ℕ} → Stands (getD rows i blank) (take i rows) waiting → to ≡ padded 32 0 (map ownerOf (sifted waits rows (i + 1)))
+          → n ≡ length (sifted waits rows (i + 1)) → n ≤ i + 1 → Next to n
+      next s a b c = record {
         walk = walk-next (p .walk) l;
-        alone = apart-told;
-        sized = length-set keys i key ∙ p .sized;
-        keyed = key-told;
-        places = rw s (p .places);
-        counted = rw s (p .counted);
-        behind = omega (arith, p .behind);
+        alone = apart-more (p .walk) blank l (p .alone) (s .alone);
+        fit = fit-more;
+        noted = noted-more;
+        low-size = length-set lows i (w .low) ∙ p .low-size;
+        high-size = length-set highs i (w .high) ∙ p .high-size;
+        len-size = length-set lens i (getD rows i blank .len) ∙ p .len-size;
+        shared-size = length-set shared i (getD rows i blank .shared) ∙ p .shared-size;
+        every-size = length-set every i (getD rows i blank .owner) ∙ p .every-size;
+        seen-size = length-set seen (firstOf (getD rows i blank)) true ∙ p .seen-size;
+        firsts = first-told;
+        whole = ap (λ x. set x i (getD rows i blank .owner)) (p .whole) ∙ more ownerOf 0;
+        places = a;
+        counted = b;
+        behind = c;
       }
 
-  pub watched-all : used ≤ i → Waiting (take used rows) (record { apart = true; count = count; owners = owners })
-  unfolding padded
-  watched-all l = record {
-    alone = sym (rw (walk-end (p .walk) l) at (p .alone));
-    few = omega (arith, p .behind, p .walk .inside, p .walk .fits);
-    them = λ _. rw (← walk-end (p .walk) l, p .places) (take-at (map ownerOf (sifted waits rows i)) (replicate (32 - length (map ownerOf (sifted waits rows i))) 0) count (rw length-map (sym (p .counted))));
-  }
+      pub watched-waits : Stands (getD rows i blank) (take i rows) true → Next (set owners count (getD rows i blank .owner)) (count + 1)
+      watched-waits s =
+          let e = sifted-more (p .walk) waits blank l (s .found) in
+          let n : length (map ownerOf (sifted waits rows i)) ≡ count = rw length-map (sym (p .counted)) in
+          let room : count < 32 = rw (p .counted) (sifted-room (p .walk) waits blank l) in
+          next s
+          (rw (e, map-append ownerOf (sifted waits rows i) (getD rows i blank ∷ []), p .places) (padded-more 32 count 0 (map ownerOf (sifted waits rows i)) (getD rows i blank .owner) n room))
+          (rw (e, length-append, p .counted))
+          (omega (arith, p .behind))
 
-pub twins-told : (rows : List Row) {owners : List ℕ} → apart rows ≡ false → Waiting rows (record { apart = false; count = 0; owners = owners })
-twins-told rows h = record { alone = sym h; few = omega arith; them = λ e. absurd (false≢true e) }
+      pub watched-holds : Stands (getD rows i blank) (take i rows) false → Next owners count
+      watched-holds s =
+          let e = sifted-same (p .walk) waits blank l (s .found) in next s (rw e (p .places)) (rw e (p .counted)) (omega (arith, p .behind))
+
+  pub watched-all : used ≤ i → Waiting (take used rows) (record { apart = true; count = count; owners = owners; all = every })
+  unfolding padded
+  watched-all l =
+      let e = walk-end (p .walk) l in record {
+        alone = rw (← e, p .fit, p .alone);
+        few = omega (arith, p .behind, p .walk .inside, p .walk .fits);
+        them = λ _. rw (← e, p .places)
+            (take-at (map ownerOf (sifted waits rows i)) (replicate (32 - length (map ownerOf (sifted waits rows i))) 0) count (rw length-map (sym (p .counted))));
+        everyone = λ _. rw (← e, p .whole) (take-at (map ownerOf (take i rows)) (replicate (32 - length (map ownerOf (take i rows))) 0) (length (take i rows)) (rw length-map));
+      }
 
 -- ---- one owner's
 

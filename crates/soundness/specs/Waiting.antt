@@ -1,26 +1,67 @@
--- The rows that wait, as the code finds them once for all processes. Assumes nothing.
-use Prim.Native.Nat.{ℕ, _+_, _-_, _*_, _/_, _≤_}
+-- Rows as the code holds them, and the rows that wait, found once for all processes. Assumes nothing.
+use Prim.Native.Nat.{ℕ, _+_, _*_, _≤_, _<_}
 use mathlib.Core.Path.{_≡_}
-use mathlib.Core.Bool.{Bool, true, cond, _&&_}
-use mathlib.Core.List.{List, [], map}
-use lib.Dec.{eqb, leb}
-use lib.ListN.{getD, take}
-use Rattle.locks.specs.Lists.{sift}
-use Rattle.locks.specs.Rows.{waits, apart}
+use mathlib.Core.Bool.{Bool, true, false, cond, _&&_}
+use mathlib.Core.List.{List, [], _∷_, map}
+use lib.Dec.{eqb, ltb}
+use lib.ListN.{length, getD, take, drop}
+use Rattle.locks.specs.Lists.{any, all, between, isZero, sift}
+use Rattle.locks.specs.Rows.{twin, waits, apart}
 use Rattle.locks.specs.declared.rows.Row.{Row}
 use Rattle.rules.specs.State.{forLock}
 use Rattle.rules.specs.Calls.{inPriority}
 use Rattle.rules.specs.Sound.{sleepFits, wakeFits, quiet, trapsFit, reactionsFit}
 use Rattle.rules.specs.declared.state.Process.{Process}
+use Rattle.soundness.specs.declared.rows.Words.{Words}
 use Rattle.soundness.specs.declared.rows.Waiters.{Waiters}
 
--- a number of the first n bytes: n, the first of them, the middle and the last
-unfoldable pub keyBytes : ℕ → List ℕ → ℕ
-keyBytes n bytes = cond (leb 1 n) (cond (leb n 16) (n + getD bytes 0 0 * 256 + getD bytes (n / 2) 0 * 65536 + getD bytes (n - 1) 0 * 16777216) 0) 0
+-- ---- bytes as numbers
 
--- rows for one sequence have one key
-abbrev pub keyOf : Row → ℕ
-keyOf r = keyBytes (r .len) (r .bytes)
+abbrev pub isByte : ℕ → Bool
+isByte b = ltb b 256
+
+-- the number with these digits, the lowest first
+abbrev pub value : List ℕ → ℕ
+value [] = 0
+value (b ∷ bytes) = b + 256 * value bytes
+
+-- w has the sixteen bytes
+pub record Worded (bytes : List ℕ) (w : Words) : Type 0 where
+  pub long : length bytes ≡ 16
+  pub small : all isByte bytes ≡ true
+  pub first : w .low ≡ value (take 8 bytes)
+  pub last : w .high ≡ value (drop 8 bytes)
+
+-- ---- rows
+
+-- what `soundRow` asks, the owner aside
+unfoldable pub fitRow : Row → Bool
+fitRow r = between 1 16 (r .len) && all isZero (drop (r .len) (r .bytes))
+
+-- w has the bytes of r, which is such a row
+pub record Told (r : Row) (w : Words) : Type 0 where
+  pub fit : fitRow r ≡ true
+  pub words : Worded (r .bytes) w
+
+-- r told by numbers
+pub record Note (r : Row) (low high len owner : ℕ) (shared : Bool) : Type 0 where
+  pub row : Told r (record { low = low; high = high })
+  pub long : len ≡ r .len
+  pub from : owner ≡ r .owner
+  pub kind : shared ≡ r .shared
+
+-- what a read past the array's end would give
+abbrev pub blank : Row
+blank = record { owner = 0; shared = false; len = 0; bytes = [] }
+
+-- the first i rows told so
+pub record Noted (rows : List Row) (i : ℕ) (lows highs lens owners : List ℕ) (shared : List Bool) : Type 0 where
+  pub inside : i ≤ length rows
+  pub each : (a : ℕ) → a < i → Note (getD rows a blank) (getD lows a 0) (getD highs a 0) (getD lens a 0) (getD owners a 0) (getD shared a false)
+
+-- how r stands to the rows ahead of it
+unfoldable pub meeting : Row → List Row → ℕ
+meeting r ahead = cond (any (twin r) ahead) 2 (cond (waits ahead r) 1 0)
 
 abbrev pub ownerOf : Row → ℕ
 ownerOf r = r .owner
@@ -30,9 +71,12 @@ abbrev pub waiters : List Row → List ℕ
 waiters rows = map ownerOf (sift waits [] rows)
 
 pub record Waiting (rows : List Row) (w : Waiters) : Type 0 where
-  pub alone : w .apart ≡ apart rows
+  pub alone : w .apart ≡ (all fitRow rows && apart rows)
   pub few : w .count ≤ 32
   pub them : w .apart ≡ true → take (w .count) (w .owners) ≡ waiters rows
+  pub everyone : w .apart ≡ true → take (length rows) (w .all) ≡ map ownerOf rows
+
+-- ---- processes
 
 -- a process of which so many rows wait is sound
 unfoldable pub soundWaiting : ℕ → Process → Bool

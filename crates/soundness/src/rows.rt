@@ -1,25 +1,57 @@
 // Lock rows of a sound state.
 use locks::rows::*;
 ghost use mathlib.Core.Path.{_≡_};
+ghost use mathlib.Core.List.{List, [], _∷_};
 ghost use lib.Dec.{eqb};
 ghost use lib.ListN.{length, take, drop};
-ghost use Prim.Native.Nat.{_≤_};
-ghost use Rattle.locks.specs.Lists.{all, isZero, keep, member};
-ghost use Rattle.locks.specs.Rows.{rowsOf, zeroRow, soundRow};
-ghost use Rattle.soundness.specs.Waiting.{keyOf, Waiting};
+ghost use Prim.Native.Nat.{ℕ, _≤_};
+ghost use Rattle.locks.specs.Lists.{all, isZero, keep};
+ghost use Rattle.locks.specs.Rows.{rowsOf, zeroRow};
+ghost use Rattle.locks.specs.declared.rows.Row.{Row};
+ghost use Rattle.soundness.specs.Waiting.{value, Worded, fitRow, Told, Noted, meeting, Waiting};
 
-fn zeros_from(bytes: [u8; 16], from: usize) -> bool
-    ensures { λ b. ⌜ b ≡ all isZero (drop from bytes) ⌝ }
+// Sixteen bytes as two numbers: the first eight and the last, the first of each the lowest.
+struct Words {
+    low: u64,
+    high: u64,
+}
+
+// The number with these digits, the lowest first.
+fn word(a: u8, b: u8, c: u8, d: u8, e: u8, f: u8, g: u8, h: u8) -> u64
+    ensures { λ n. ⌜ n ≡ value (a ∷ b ∷ c ∷ d ∷ e ∷ f ∷ g ∷ h ∷ []) ⌝ }
 {
-    let mut sum: u32 = 0;
-    let mut i: usize = 0;
-    while i < 16 {
-        if from <= i {
-            sum += bytes[i] as u32;
-        }
-        i += 1;
+    a as u64
+        + b as u64 * 256
+        + c as u64 * 65536
+        + d as u64 * 16777216
+        + e as u64 * 4294967296
+        + f as u64 * 1099511627776
+        + g as u64 * 281474976710656
+        + h as u64 * 72057594037927936
+}
+
+fn words_of(b: [u8; 16]) -> Words
+    ensures { λ w. ⌜ Worded b w ⌝ }
+{
+    let low = word(b[0], b[1], b[2], b[3], b[4], b[5], b[6], b[7]);
+    let high = word(b[8], b[9], b[10], b[11], b[12], b[13], b[14], b[15]);
+    Words {
+        low: low,
+        high: high,
     }
-    sum == 0
+}
+
+// Only zeros stand after the first n bytes.
+fn ends_at(w: Words, n: usize) -> bool
+    ensures { λ b. ⌜ ((bytes : List ℕ) → Worded bytes w → b ≡ all isZero (drop n bytes)) ⌝ }
+{
+    if n < 8 {
+        return w.high == 0 && w.low >> (n * 8) == 0;
+    }
+    if n < 16 {
+        return w.high >> ((n - 8) * 8) == 0;
+    }
+    true
 }
 
 fn zero_row(r: Row) -> bool
@@ -35,7 +67,8 @@ fn zero_row(r: Row) -> bool
         return false;
     }
     let bytes = r.bytes;
-    zeros_from(bytes, 0)
+    let w = words_of(bytes);
+    ends_at(w, 0)
 }
 
 pub(crate) fn unused_rows(t: Table) -> bool
@@ -52,23 +85,10 @@ pub(crate) fn unused_rows(t: Table) -> bool
     true
 }
 
-fn among(pids: [u16; 16], n: usize, pid: u16) -> bool
-    requires { ⌜ n ≤ 16 ⌝ }
-    ensures { λ b. ⌜ b ≡ member pid (take n pids) ⌝ }
-{
-    let mut i: usize = 0;
-    while i < n {
-        if pids[i] == pid {
-            return true;
-        }
-        i += 1;
-    }
-    false
-}
-
-fn sound_row(r: Row, pids: [u16; 16], n: usize) -> bool
-    requires { ⌜ n ≤ 16 ⌝ }
-    ensures { λ b. ⌜ b ≡ soundRow (take n pids) r ⌝ }
+// The row is sound, its owner aside.
+fn fit_row(r: Row, w: Words) -> bool
+    requires { ⌜ Worded (r .bytes) w ⌝ }
+    ensures { λ b. ⌜ b ≡ fitRow r ⌝ }
 {
     if r.len < 1 {
         return false;
@@ -76,102 +96,108 @@ fn sound_row(r: Row, pids: [u16; 16], n: usize) -> bool
     if 16 < r.len {
         return false;
     }
-    if !among(pids, n, r.owner) {
-        return false;
-    }
-    let bytes = r.bytes;
-    zeros_from(bytes, r.len as usize)
+    ends_at(w, r.len as usize)
 }
 
-pub(crate) fn sound_rows(t: Table, pids: [u16; 16], n: usize) -> bool
-    requires { ⌜ (n ≤ 16) × (t .used ≤ 32) ⌝ }
-    ensures { λ b. ⌜ b ≡ all (soundRow (take n pids)) (rowsOf t) ⌝ }
+// How row r stands to the i rows ahead of it: 2 if one is its twin, else 1 if it waits, else 0.
+fn meets<'a>(
+    lows: &'a [u64; 32],
+    highs: &'a [u64; 32],
+    lens: &'a [u8; 32],
+    owners: &'a [u16; 32],
+    shared: &'a [bool; 32],
+    i: usize,
+    w: Words,
+    r: Row,
+) -> u8
+    requires { ⌜ i ≤ 32 ⌝ }
+    ensures { λ m. ⌜ ((rows : List Row) → Noted rows i (now (lows .entry)) (now (highs .entry)) (now (lens .entry)) (now (owners .entry)) (now (shared .entry)) → Told r w → m ≡ meeting r (take i rows)) ⌝ }
 {
-    let mut i: usize = 0;
-    while i < t.used {
-        let r = t.rows[i];
-        if !sound_row(r, pids, n) {
-            return false;
+    let mut waiting: u8 = 0;
+    let mut a: usize = 0;
+    while a < i {
+        if lows[a] == w.low && highs[a] == w.high && lens[a] == r.len {
+            if owners[a] == r.owner {
+                return 2;
+            }
+            if !r.shared || !shared[a] {
+                waiting = 1;
+            }
         }
-        i += 1;
+        a += 1;
     }
-    true
+    waiting
 }
 
-// Rows for one sequence have one key: its length, its first byte, its middle and its last.
-fn key_of(r: Row) -> u32
-    ensures { λ k. ⌜ k ≡ keyOf r ⌝ }
-{
-    if r.len < 1 {
-        return 0;
-    }
-    if 16 < r.len {
-        return 0;
-    }
-    let n = r.len as usize;
-    let b = r.bytes;
-    n as u32 + b[0] as u32 * 256 + b[n / 2] as u32 * 65536 + b[n - 1] as u32 * 16777216
-}
-
-// Whether no row has a twin; if so, the owners of the rows that wait, as many as `count` says.
+// Whether each row is sound, its owner aside, and none has a twin; if so, the owners of the rows that
+// wait, as many as `count` says, and the owners of all rows.
 pub(crate) struct Waiters {
     pub apart: bool,
     pub count: usize,
     pub owners: [u16; 32],
+    pub all: [u16; 32],
 }
 
-fn found(apart: bool, count: usize, owners: [u16; 32]) -> Waiters
-    ensures { λ w. ⌜ w ≡ record { apart = apart; count = count; owners = owners } ⌝ }
+fn found(apart: bool, count: usize, owners: [u16; 32], all: [u16; 32]) -> Waiters
+    ensures { λ w. ⌜ w ≡ record { apart = apart; count = count; owners = owners; all = all } ⌝ }
 {
     Waiters {
         apart: apart,
         count: count,
         owners: owners,
+        all: all,
     }
 }
 
-// Each row is held against those ahead of it that have its key.
+// Each row is held against those ahead of it, unless its first byte is new.
 pub(crate) fn waiters_of(t: Table) -> Waiters
     requires { ⌜ t .used ≤ 32 ⌝ }
     ensures { λ w. ⌜ Waiting (rowsOf t) w ⌝ }
 {
-    let mut keys = [0u32; 32];
+    let mut seen = [false; 256];
+    let mut lows = [0u64; 32];
+    let mut highs = [0u64; 32];
+    let mut lens = [0u8; 32];
+    let mut shared = [false; 32];
+    let mut all = [0u16; 32];
     let mut owners = [0u16; 32];
     let mut count: usize = 0;
     let mut i: usize = 0;
     while i < t.used {
         let r = t.rows[i];
-        let key = key_of(r);
-        let mut waiting = false;
-        let mut a: usize = 0;
-        while a < i {
-            if keys[a] == key {
-                let q = t.rows[a];
-                if twins(r, q) {
-                    return found(false, 0, owners);
-                }
-                if conflicts(r, q) {
-                    waiting = true;
-                }
+        let bytes = r.bytes;
+        let w = words_of(bytes);
+        if !fit_row(r, w) {
+            return found(false, 0, owners, all);
+        }
+        let first = bytes[0] as usize;
+        if seen[first] {
+            let m = meets(&lows, &highs, &lens, &all, &shared, i, w, r);
+            if m == 2 {
+                return found(false, 0, owners, all);
             }
-            a += 1;
+            if m == 1 {
+                owners[count] = r.owner;
+                count += 1;
+            }
         }
-        keys[i] = key;
-        if waiting {
-            owners[count] = r.owner;
-            count += 1;
-        }
+        seen[first] = true;
+        lows[i] = w.low;
+        highs[i] = w.high;
+        lens[i] = r.len;
+        shared[i] = r.shared;
+        all[i] = r.owner;
         i += 1;
     }
-    found(true, count, owners)
+    found(true, count, owners, all)
 }
 
-// How many of the rows that wait are of that owner.
-pub(crate) fn waiting_rows(owners: [u16; 32], n: usize, pid: u16) -> usize
-    requires { ⌜ n ≤ 32 ⌝ }
-    ensures { λ k. ⌜ k ≡ length (keep (λ x. eqb x pid) (take n owners)) ⌝ }
+// How many of the first n rows, whose owners these are, are of that process.
+pub(crate) fn rows_of(owners: &[u16; 32], n: usize, pid: u16) -> u16
+    requires { ⌜ (n ≤ 32) × (length (now owners) ≡ 32) ⌝ }
+    ensures { λ k. ⌜ (k ≤ n) × (k ≡ length (keep (λ x. eqb x pid) (take n (now (owners .entry))))) ⌝ }
 {
-    let mut k: usize = 0;
+    let mut k: u16 = 0;
     let mut i: usize = 0;
     while i < n {
         if owners[i] == pid {

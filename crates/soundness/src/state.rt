@@ -3,14 +3,13 @@ use crate::process::*;
 use crate::rows::*;
 use rules::state::*;
 ghost use mathlib.Core.Path.{_≡_};
-ghost use mathlib.Core.Bool.{true};
-ghost use lib.ListN.{take, drop};
+ghost use mathlib.Core.Bool.{_&&_};
+ghost use lib.Dec.{leb};
+ghost use lib.ListN.{take};
 ghost use Prim.Native.Nat.{_≤_};
-ghost use Rattle.locks.specs.Lists.{all};
-ghost use Rattle.locks.specs.Rows.{rowsOf};
+ghost use Rattle.locks.specs.Lists.{between};
 ghost use Rattle.rules.specs.State.{pids};
-ghost use Rattle.rules.specs.Sound.{pidsFit, soundProcess, zeroProcess, sound};
-ghost use Rattle.soundness.specs.Waiting.{Waiting};
+ghost use Rattle.rules.specs.Sound.{pidsFit, sound};
 
 pub fn pids_of(s: State) -> [u16; 16]
     ensures { λ r. ⌜ r ≡ pids (s .procs) ⌝ }
@@ -47,65 +46,56 @@ fn pids_fit(ns: [u16; 16], n: usize, next: u32) -> bool
     low <= next && next <= 65536
 }
 
-fn unused_processes(s: State) -> bool
-    ensures { λ b. ⌜ b ≡ all zeroProcess (drop (s .live) (s .procs)) ⌝ }
+// "Counts of processes and rows .. lie in the ranges above"
+fn counts_fit(live: usize, used: usize) -> bool
+    ensures { λ b. ⌜ b ≡ (between 1 16 live && leb used 32) ⌝ }
 {
-    let mut i = s.live;
-    while i < 16 {
-        let p = s.procs[i];
-        if !zero_process(p) {
-            return false;
-        }
-        i += 1;
+    if live < 1 {
+        return false;
     }
-    true
+    if 16 < live {
+        return false;
+    }
+    used <= 32
 }
 
-fn sound_processes(s: State, w: Waiters) -> bool
-    requires { ⌜ (s .live ≤ 16) × ((w .apart ≡ true) × Waiting (rowsOf (s .table)) w) ⌝ }
-    ensures { λ b. ⌜ b ≡ all (soundProcess (rowsOf (s .table))) (take (s .live) (s .procs)) ⌝ }
-{
-    let owners = w.owners;
-    let mut i: usize = 0;
-    while i < s.live {
-        let p = s.procs[i];
-        let n = waiting_rows(owners, w.count, p.pid);
-        if !sound_process(p, n) {
-            return false;
-        }
-        i += 1;
-    }
-    true
-}
-
+// PIDs are distinct, so the rows of the live processes are all rows only where each row has a live owner.
 pub fn is_sound(s: State) -> bool
     ensures { λ b. ⌜ b ≡ sound s ⌝ }
 {
-    if s.live < 1 {
-        return false;
-    }
-    if 16 < s.live {
-        return false;
-    }
-    if 32 < s.table.used {
-        return false;
-    }
-    if !unused_processes(s) {
-        return false;
-    }
-    if !unused_rows(s.table) {
+    let used = s.table.used;
+    if !counts_fit(s.live, used) {
         return false;
     }
     let ns = pids_of(s);
     if !pids_fit(ns, s.live, s.next) {
         return false;
     }
-    if !sound_rows(s.table, ns, s.live) {
+    if !unused_rows(s.table) {
         return false;
     }
     let w = waiters_of(s.table);
     if !w.apart {
         return false;
     }
-    sound_processes(s, w)
+    let owners = w.owners;
+    let all = w.all;
+    let mut owned: u16 = 0;
+    let mut i: usize = 0;
+    while i < 16 {
+        let p = s.procs[i];
+        if i < s.live {
+            owned += rows_of(&all, used, p.pid);
+            let waiting = rows_of(&owners, w.count, p.pid);
+            if !sound_process(p, waiting as usize) {
+                return false;
+            }
+        } else {
+            if !zero_process(p) {
+                return false;
+            }
+        }
+        i += 1;
+    }
+    owned as usize == used
 }

@@ -1,158 +1,170 @@
--- `soundness::rows::waiters_of` meets its contract: the first i rows are watched, and row i held against those before place a. Assumes nothing.
+-- `soundness::rows::waiters_of` meets its contract: the first i rows are watched. Assumes nothing.
 use Rattle.soundness.proofs.rows.waiters_of.Statement.{statement}
 use Rattle.soundness.proofs.rows.waiters_of.Tie as tie
 use borrow.Author.Needs.{needs}
 use Prim.Native.Nat.{_-_}
+use native.Mathlib.Omega.{arith}
 use mathlib.Core.Path.{sym, _∙_}
 use mathlib.Core.Logic.{⊎-elim}
 use lib.ListN.{length-map}
+use borrow.Author.Tests.{not-true}
 use Rattle.locks.specs.Rows.{rowsOf}
-use Rattle.soundness.proofs.Waiting.{blank, Against, against-none, against-waits, against-passes, against-other, Watched, watched-none, in-rows, twin-found, watched-waits, watched-holds, watched-all, twins-told}
-
-abbrev Inv-loop2 : tie.InvT-loop2
-Inv-loop2 t keys owners count i r key waiting₀ a₀ waiting a = Against (t .rows) r i a waiting
-
-abbrev μ-loop2 : tie.MeasureT-loop2
-μ-loop2 t keys owners count i r key waiting₀ a₀ waiting a = i - a
+use Rattle.soundness.proofs.Words.{told, byte-at}
+use Rattle.soundness.proofs.Waiting.{Watched, watched-none, refused, not-fit, twin-found, new-first, met-twin, met-waits, met-holds, watched-waits, watched-holds, watched-all}
 
 abbrev Inv-loop : tie.InvT-loop
-Inv-loop t keys₀ owners₀ count₀ i₀ keys owners count i = Watched (t .rows) blank (t .used) i keys owners count
+Inv-loop t seen₀ lows₀ highs₀ lens₀ shared₀ all₀ owners₀ count₀ i₀ seen lows highs lens shared all owners count i = Watched (t .rows) (t .used) i seen lows highs lens shared all owners count
 
 abbrev μ-loop : tie.MeasureT-loop
-μ-loop t keys₀ owners₀ count₀ i₀ keys owners count i = t .used - i
+μ-loop t seen₀ lows₀ highs₀ lens₀ shared₀ all₀ owners₀ count₀ i₀ seen lows highs lens shared all owners count i = t .used - i
 
-loop-holds : tie.Need-loop-holds Inv-loop2 μ-loop2 Inv-loop μ-loop
-loop-holds c = watched-none _ _ _ (simp length-map at (c .good .0 .1 .1 .0 .1 .0 .1)) (c .pre)
+loop-holds : tie.Need-loop-holds Inv-loop μ-loop
+loop-holds c = watched-none _ _ (simp length-map at (c .good .0 .1 .1 .0 .1 .0 .1)) (c .pre)
 
-mul-r : tie.Need-mul-r Inv-loop2 μ-loop2 Inv-loop μ-loop
+mul-r : tie.Need-mul-r Inv-loop μ-loop
 mul-r c = search needs
 
-element-copy-out-r : tie.Need-element-copy-out-r Inv-loop2 μ-loop2 Inv-loop μ-loop
+element-copy-out-r : tie.Need-element-copy-out-r Inv-loop μ-loop
 element-copy-out-r c = search needs
 
-key-of-requires : tie.Need-key-of-requires Inv-loop2 μ-loop2 Inv-loop μ-loop
-key-of-requires c κs = search needs
+words-of-requires : tie.Need-words-of-requires Inv-loop μ-loop
+words-of-requires c κs = search needs
 
-loop2-holds : tie.Need-loop2-holds Inv-loop2 μ-loop2 Inv-loop μ-loop
-loop2-holds c = against-none _ _ _
+fit-row-requires : tie.Need-fit-row-requires Inv-loop μ-loop
+fit-row-requires c κs = c .words-of .ensures
 
-mul-if1 : tie.Need-mul-if1 Inv-loop2 μ-loop2 Inv-loop μ-loop
-mul-if1 c = search needs
-
-array-read-if1 : tie.Need-array-read-if1 Inv-loop2 μ-loop2 Inv-loop μ-loop
-array-read-if1 c = search needs
-
-mul-q : tie.Need-mul-q Inv-loop2 μ-loop2 Inv-loop μ-loop
-mul-q c = search needs
-
-element-copy-out-q : tie.Need-element-copy-out-q Inv-loop2 μ-loop2 Inv-loop μ-loop
-element-copy-out-q c = search needs
-
-twins-requires : tie.Need-twins-requires Inv-loop2 μ-loop2 Inv-loop μ-loop
-twins-requires c κs = search needs
-
-found-requires : tie.Need-found-requires Inv-loop2 μ-loop2 Inv-loop μ-loop
+found-requires : tie.Need-found-requires Inv-loop μ-loop
 found-requires c κs = search needs
 
-returns : tie.Need-returns Inv-loop2 μ-loop2 Inv-loop μ-loop
+returns : tie.Need-returns Inv-loop μ-loop
 unfolding rowsOf
 returns c =
-    let h = c .before in
-    let s = h .before .before .before .before in
-    let o = s .before .before .before .before in
-    rw (c .found .ensures) (twins-told _ (twin-found (o .before .loop .inv) (o .loop-test .taken) (s .loop2-test .taken) (sym (h .before .twins .ensures) ∙ h .if2 .taken)))
+    let e = c .before in
+    let o = e .before .before .before .before .before in
+    rw (c .found .ensures) (refused _ (not-fit (o .before .loop .inv) (o .loop-test .taken) (sym (e .before .fit-row .ensures) ∙ not-true _ (e .if1 .taken))))
 
-conflicts-requires : tie.Need-conflicts-requires Inv-loop2 μ-loop2 Inv-loop μ-loop
-conflicts-requires c κs = search needs
+array-read-first : tie.Need-array-read-first Inv-loop μ-loop
+array-read-first c = search needs
 
-add-a : tie.Need-add-a Inv-loop2 μ-loop2 Inv-loop μ-loop
-add-a c = search needs
+cast-first : tie.Need-cast-first Inv-loop μ-loop
+cast-first c = let h = byte-at (c .before .before .words-of .ensures) 0 in record { fits = omega (arith, h) }
 
-loop2-less : tie.Need-loop2-less Inv-loop2 μ-loop2 Inv-loop μ-loop
-loop2-less c = search needs
+array-read-if2 : tie.Need-array-read-if2 Inv-loop μ-loop
+array-read-if2 c = byte-at (c .before .before .words-of .ensures) 0
 
-loop2-again : tie.Need-loop2-again Inv-loop2 μ-loop2 Inv-loop μ-loop
-loop2-again c =
-    let q = c .before .before .loop2 .inv in
-    let m = c .before .loop2-test .taken in
-    let k = c .before .before .before .key-of .ensures in
-    let o = c .before .before .before .before .before in
-    let p = o .before .loop .inv in
-    let n = in-rows p (o .loop-test .taken) m in
-    ⊎-elim (λ w. against-waits q blank m n (sym (w .2 .ensures) ∙ w .3 .left) (sym (w .4 .ensures) ∙ w .5 .taken) (w .6))
-    (⊎-elim (λ w. against-passes q blank m n (sym (w .2 .ensures) ∙ w .3 .left) (sym (w .4 .ensures) ∙ w .5 .left) (w .6))
-    (λ w. against-other q blank m n (λ e. w .0 .left (p .keyed _ m ∙ e ∙ sym k)) (w .1)))
-    (c .if1 .came)
+meets-requires : tie.Need-meets-requires Inv-loop μ-loop
+meets-requires c κs = search needs
 
-mul-keys : tie.Need-mul-keys Inv-loop2 μ-loop2 Inv-loop μ-loop
-mul-keys c = search needs
-
-array-write-keys : tie.Need-array-write-keys Inv-loop2 μ-loop2 Inv-loop μ-loop
-array-write-keys c = search needs
-
-mul-owners : tie.Need-mul-owners Inv-loop2 μ-loop2 Inv-loop μ-loop
-mul-owners c = search needs
-
-array-write-owners : tie.Need-array-write-owners Inv-loop2 μ-loop2 Inv-loop μ-loop
-array-write-owners c = search needs
-
-add-count : tie.Need-add-count Inv-loop2 μ-loop2 Inv-loop μ-loop
-add-count c = search needs
-
-add-i : tie.Need-add-i Inv-loop2 μ-loop2 Inv-loop μ-loop
-add-i c = search needs
-
-loop-less : tie.Need-loop-less Inv-loop2 μ-loop2 Inv-loop μ-loop
-loop-less c = search needs
-
-loop-again : tie.Need-loop-again Inv-loop2 μ-loop2 Inv-loop μ-loop
-loop-again c =
-    let q = c .before .before .loop2 .inv in
-    let m = c .before .loop2-test .left in
-    let k = c .before .before .before .key-of .ensures in
-    let o = c .before .before .before .before .before in
-    let p = o .before .loop .inv in
-    let l = o .loop-test .taken in
-    ⊎-elim (λ w. rw (w .1, w .2) (watched-waits p l q m k (w .0 .taken))) (λ w. rw (w .1, w .2) (watched-holds p l q m k (w .0 .left))) (c .if4 .came)
-
-found-requires-2 : tie.Need-found-requires-2 Inv-loop2 μ-loop2 Inv-loop μ-loop
+found-requires-2 : tie.Need-found-requires-2 Inv-loop μ-loop
 found-requires-2 c κs = search needs
 
-returns-2 : tie.Need-returns-2 Inv-loop2 μ-loop2 Inv-loop μ-loop
+returns-2 : tie.Need-returns-2 Inv-loop μ-loop
 unfolding rowsOf
-returns-2 c = rw (c .found2 .ensures) (watched-all (c .before .before .loop .inv) (c .before .loop-test .left))
+returns-2 c =
+    let h = c .before in
+    let e = h .before .before .before .before .before .before .before .before in
+    let o = e .before .before .before .before .before in
+    let p = o .before .loop .inv in
+    let t = told (e .before .fit-row .ensures) (e .if1 .left) (e .before .before .words-of .ensures) in
+    rw (c .found2 .ensures) (refused _ (twin-found p (o .loop-test .taken) (met-twin _ _ (h .before .meets .ensures _ (p .noted) t) (h .if3 .taken))))
+
+mul-owners : tie.Need-mul-owners Inv-loop μ-loop
+mul-owners c = search needs
+
+array-write-owners : tie.Need-array-write-owners Inv-loop μ-loop
+array-write-owners c = search needs
+
+add-count : tie.Need-add-count Inv-loop μ-loop
+add-count c = search needs
+
+array-write-seen : tie.Need-array-write-seen Inv-loop μ-loop
+array-write-seen c = byte-at (c .before .before .before .words-of .ensures) 0
+
+mul-lows : tie.Need-mul-lows Inv-loop μ-loop
+mul-lows c = search needs
+
+array-write-lows : tie.Need-array-write-lows Inv-loop μ-loop
+array-write-lows c = search needs
+
+mul-highs : tie.Need-mul-highs Inv-loop μ-loop
+mul-highs c = search needs
+
+array-write-highs : tie.Need-array-write-highs Inv-loop μ-loop
+array-write-highs c = search needs
+
+array-write-lens : tie.Need-array-write-lens Inv-loop μ-loop
+array-write-lens c = search needs
+
+array-write-shared : tie.Need-array-write-shared Inv-loop μ-loop
+array-write-shared c = search needs
+
+mul-all : tie.Need-mul-all Inv-loop μ-loop
+mul-all c = search needs
+
+array-write-all : tie.Need-array-write-all Inv-loop μ-loop
+array-write-all c = search needs
+
+add-i : tie.Need-add-i Inv-loop μ-loop
+add-i c = search needs
+
+loop-less : tie.Need-loop-less Inv-loop μ-loop
+loop-less c = search needs
+
+loop-again : tie.Need-loop-again Inv-loop μ-loop
+loop-again c =
+    let e = c .before in
+    let o = e .before .before .before .before .before in
+    let p = o .before .loop .inv in
+    let l = o .loop-test .taken in
+    let t = told (e .before .fit-row .ensures) (e .if1 .left) (e .before .before .words-of .ensures) in
+    let m = byte-at (t .words) 0 in
+    ⊎-elim
+    (λ w. rw (w .9, w .10) (watched-waits p l t m (met-waits _ _ (w .6 .ensures _ (p .noted) t) (w .7 .left) (w .8 .taken))))
+    (⊎-elim
+    (λ w. rw (w .9, w .10) (watched-holds p l t m (met-holds _ _ (w .6 .ensures _ (p .noted) t) (w .7 .left) (w .8 .left))))
+    (λ w. rw (w .1, w .2) (watched-holds p l t m (new-first p l (t .fit) m (w .0 .left)))))
+    (c .if2 .came)
+
+found-requires-3 : tie.Need-found-requires-3 Inv-loop μ-loop
+found-requires-3 c κs = search needs
+
+returns-3 : tie.Need-returns-3 Inv-loop μ-loop
+unfolding rowsOf
+returns-3 c = rw (c .found3 .ensures) (watched-all (c .before .before .loop .inv) (c .before .loop-test .left))
 
 pub waiters-of-spec : {M : Type 1} → statement M
 waiters-of-spec =
     tie.close
     (tie.spec
-    Inv-loop2
-    μ-loop2
     Inv-loop
     μ-loop
     loop-holds
     mul-r
     element-copy-out-r
-    key-of-requires
-    loop2-holds
-    mul-if1
-    array-read-if1
-    mul-q
-    element-copy-out-q
-    twins-requires
+    words-of-requires
+    fit-row-requires
     found-requires
     returns
-    conflicts-requires
-    add-a
-    loop2-less
-    loop2-again
-    mul-keys
-    array-write-keys
+    array-read-first
+    cast-first
+    array-read-if2
+    meets-requires
+    found-requires-2
+    returns-2
     mul-owners
     array-write-owners
     add-count
+    array-write-seen
+    mul-lows
+    array-write-lows
+    mul-highs
+    array-write-highs
+    array-write-lens
+    array-write-shared
+    mul-all
+    array-write-all
     add-i
     loop-less
     loop-again
-    found-requires-2
-    returns-2)
+    found-requires-3
+    returns-3)

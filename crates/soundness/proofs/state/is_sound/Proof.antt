@@ -1,120 +1,161 @@
--- `soundness::state::is_sound` meets its contract: what is left to test, place by place. Assumes nothing.
-use borrow.Author.Needs.{needs}
+-- `soundness::state::is_sound` meets its contract: the places before place i are tested, and the rows of the live processes there added up. Assumes nothing.
 use Rattle.soundness.proofs.state.is_sound.Statement.{statement}
 use Rattle.soundness.proofs.state.is_sound.Tie as tie
+use borrow.Author.Needs.{needs}
+use Prim.Native.Nat.{_-_, _≤_}
+use native.Mathlib.Omega.{arith}
 use mathlib.Core.Path.{_≡_, sym, _∙_}
-use mathlib.Core.Bool.{true, _&&_}
-use lib.ListN.{take, drop}
-use borrow.Author.Tests.{le-leb, lt-leb, not-true, not-false}
-use Rattle.locks.specs.Lists.{all}
-use Rattle.locks.specs.Rows.{rowsOf, zeroRow, soundRow, apart}
-use Rattle.rules.specs.State.{view}
-use Rattle.rules.specs.Sound.{zeroProcess, soundProcess, pidsFit, sound, soundMachine}
-use Rattle.soundness.proofs.Laws.{take-pids}
-use Rattle.rules.specs.declared.state.State.{State}
+use mathlib.Core.Logic.{⊎-elim}
+use lib.ListN.{length, take, length-map}
+use borrow.Author.Tests.{not-true, not-false}
+use Rattle.locks.specs.Rows.{rowsOf}
+use Rattle.soundness.proofs.Waiting.{sound-told}
+use Rattle.soundness.proofs.Whole.{in-range, unsound, no, Placed, placed-none, placed-live, live-fails, placed-unused, unused-fails, owners-told, placed-all}
 
-returns : tie.Need-returns
-unfolding sound
-returns c = rw (lt-leb _ _ (c .if1 .taken))
+abbrev Inv-loop : tie.InvT-loop
+Inv-loop s used w owners all owned₀ i₀ owned i = Placed s (take used all) owned i
 
-returns-2 : tie.Need-returns-2
-unfolding sound
-returns-2 c = rw (le-leb _ _ (c .before .before .if1 .left), lt-leb _ _ (c .if2 .taken))
+abbrev μ-loop : tie.MeasureT-loop
+μ-loop s used w owners all owned₀ i₀ owned i = 16 - i
 
-returns-3 : tie.Need-returns-3
-unfolding sound
-returns-3 c = rw (le-leb _ _ (c .before .before .before .before .if1 .left), le-leb _ _ (c .before .before .if2 .left), lt-leb _ _ (c .if3 .taken))
+ranges : (e : tie.Else1 Inv-loop μ-loop) → let s = e .before .before .args .t1 in (s .live ≤ 16) × (s .table .used ≤ 32)
+ranges e = in-range _ _ (e .before .counts-fit .ensures) (e .if1 .left)
 
-unused-processes-requires : tie.Need-unused-processes-requires
-unused-processes-requires c κs = search needs
+counts-fit-requires : tie.Need-counts-fit-requires Inv-loop μ-loop
+counts-fit-requires c κs = search needs
 
-abbrev state : tie.Else3 → State
-state e = e .before .before .before .before .before .before .args .s
+returns : tie.Need-returns Inv-loop μ-loop
+returns c = unsound _ (λ p. no (sym (c .before .counts-fit .ensures) ∙ not-true _ (c .if1 .taken)) (p .counts))
 
--- the counts fit
-counted : (e : tie.Else3) → let s = state e in
-    sound s ≡ (all zeroProcess (drop (s .live) (s .procs)) && all zeroRow (drop (s .table .used) (s .table .rows)) && soundMachine (view s))
-unfolding sound
-counted e = rw (le-leb _ _ (e .before .before .before .before .if1 .left), le-leb _ _ (e .before .before .if2 .left), le-leb _ _ (e .if3 .left))
-
-returns-4 : tie.Need-returns-4
-returns-4 c = sym (counted (c .before .before) ∙ rw (sym (c .before .unused-processes .ensures) ∙ not-true _ (c .if4 .taken)))
-
-unused-rows-requires : tie.Need-unused-rows-requires
-unused-rows-requires c κs = search needs
-
-in-use : (e : tie.Else4) → let s = state (e .before .before) in all zeroProcess (drop (s .live) (s .procs)) ≡ true
-in-use e = sym (e .before .unused-processes .ensures) ∙ not-false _ (e .if4 .left)
-
-returns-5 : tie.Need-returns-5
-returns-5 c = let e = c .before .before in sym (counted (e .before .before) ∙ rw (in-use e, sym (c .before .unused-rows .ensures) ∙ not-true _ (c .if5 .taken)))
-
-pids-of-requires : tie.Need-pids-of-requires
+pids-of-requires : tie.Need-pids-of-requires Inv-loop μ-loop
 pids-of-requires c κs = search needs
 
-pids-fit-requires : tie.Need-pids-fit-requires
-pids-fit-requires c κs = search needs
+pids-fit-requires : tie.Need-pids-fit-requires Inv-loop μ-loop
+pids-fit-requires c κs = ranges (c .before) .0
 
--- unused places are zero, and the PIDs are copied
-as-machine : (a : tie.After-pids-of) → let s = state (a .before .before .before .before .before) in let ns = take (s .live) (a .pids-of .result) in let rows = rowsOf (s .table) in
-    sound s ≡ (pidsFit ns (s .next) && all (soundRow ns) rows && apart rows && all (soundProcess rows) (take (s .live) (s .procs)))
-unfolding soundMachine view
-as-machine a =
-    let e = a .before .before .before in
-    counted (e .before .before) ∙ rw (in-use e, sym (a .before .before .unused-rows .ensures) ∙ not-false _ (a .before .if5 .left), a .pids-of .ensures, take-pids)
+returns-2 : tie.Need-returns-2 Inv-loop μ-loop
+returns-2 c = unsound _ (λ p. no (sym (c .before .pids-fit .ensures) ∙ not-true _ (c .if2 .taken)) (rw (c .before .before .pids-of .ensures) (p .pids-fit)))
 
-returns-6 : tie.Need-returns-6
-returns-6 c = sym (as-machine (c .before .before) ∙ rw (sym (c .before .pids-fit .ensures) ∙ not-true _ (c .if6 .taken)))
+unused-rows-requires : tie.Need-unused-rows-requires Inv-loop μ-loop
+unused-rows-requires c κs = search needs
 
-sound-rows-requires : tie.Need-sound-rows-requires
-sound-rows-requires c κs = search needs
+returns-3 : tie.Need-returns-3 Inv-loop μ-loop
+returns-3 c = unsound _ (λ p. no (sym (c .before .unused-rows .ensures) ∙ not-true _ (c .if3 .taken)) (p .zero-rows))
 
-pids-fit : (e : tie.Else6) → let a = e .before .before in let s = state (a .before .before .before .before .before) in pidsFit (take (s .live) (a .pids-of .result)) (s .next) ≡ true
-pids-fit e = sym (e .before .pids-fit .ensures) ∙ not-false _ (e .if6 .left)
+waiters-of-requires : tie.Need-waiters-of-requires Inv-loop μ-loop
+waiters-of-requires c κs = ranges (c .before .before .before .before .before .before .before) .1
 
-returns-7 : tie.Need-returns-7
-returns-7 c = let e = c .before .before in sym (as-machine (e .before .before) ∙ rw (pids-fit e, sym (c .before .sound-rows .ensures) ∙ not-true _ (c .if7 .taken)))
+returns-4 : tie.Need-returns-4 Inv-loop μ-loop
+returns-4 c = unsound _ (λ p. no (sym (c .before .before .waiters-of .ensures .alone) ∙ not-true _ (c .if4 .taken)) (p .rows))
 
-waiters-of-requires : tie.Need-waiters-of-requires
-waiters-of-requires c κs = search needs
+loop-holds : tie.Need-loop-holds Inv-loop μ-loop
+loop-holds c = placed-none _ _ (simp length-map at (c .before .before .before .before .before .before .before .before .before .before .before .before .before .before .good .0 .1 .1 .0 .1 .0 .1)) (ranges (c .before .before .before .before .before .before .before .before .before .before .before .before) .0)
 
-rows-fit : (f : tie.Else7) → let a = f .before .before .before .before in let s = state (a .before .before .before .before .before) in
-    all (soundRow (take (s .live) (a .pids-of .result))) (rowsOf (s .table)) ≡ true
-rows-fit f = sym (f .before .sound-rows .ensures) ∙ not-false _ (f .if7 .left)
+mul-p : tie.Need-mul-p Inv-loop μ-loop
+mul-p c = search needs
 
-returns-8 : tie.Need-returns-8
-returns-8 c =
-    let f = c .before .before .before in
-    let e = f .before .before in
-    sym (as-machine (e .before .before) ∙ rw (pids-fit e, rows-fit f, sym (c .before .before .waiters-of .ensures .alone) ∙ not-true _ (c .if8 .taken)))
+element-copy-out-p : tie.Need-element-copy-out-p Inv-loop μ-loop
+element-copy-out-p c = search needs
 
-sound-processes-requires : tie.Need-sound-processes-requires
-sound-processes-requires c κs = (search needs, (not-false _ (c .if8 .left), c .before .before .waiters-of .ensures))
+rows-of-requires : tie.Need-rows-of-requires Inv-loop μ-loop
+rows-of-requires c κs = (ranges (c .before .before .before .before .before .before .before .before .before .before .before .before .before .before .before .before .before) .1, search needs)
 
-returns-9 : tie.Need-returns-9
-returns-9 c =
-    let g = c .before in
-    let f = g .before .before .before in
-    let e = f .before .before in
-    c .sound-processes .ensures ∙ sym (as-machine (e .before .before) ∙ rw (pids-fit e, rows-fit f, sym (g .before .before .waiters-of .ensures .alone) ∙ not-false _ (g .if8 .left)))
+add-owned : tie.Need-add-owned Inv-loop μ-loop
+add-owned c =
+    let o = c .before .before .before .before .before in
+    record { fits = omega (arith, c .rows-of .ensures .0, o .loop .inv .few, c .before .before .before .before .loop-test .taken, ranges (o .before .before .before .before .before .before .before .before .before .before .before .before .before) .1) }
+
+rows-of-requires-2 : tie.Need-rows-of-requires-2 Inv-loop μ-loop
+rows-of-requires-2 c κs = search needs
+
+cast-sound-process : tie.Need-cast-sound-process Inv-loop μ-loop
+cast-sound-process c = search needs
+
+sound-process-requires : tie.Need-sound-process-requires Inv-loop μ-loop
+sound-process-requires c κs = search needs
+
+returns-5 : tie.Need-returns-5 Inv-loop μ-loop
+returns-5 c =
+    let s = c .before .before .before .before .before .before in
+    let o = s .before .before in
+    let g = o .before .before .before .before in
+    unsound _ (live-fails (o .before .loop .inv) _ (s .if5 .taken)
+    (sound-told _ _ _ (g .before .before .waiters-of .ensures) (not-false _ (g .if4 .left)) (c .before .before .rows-of2 .ensures .1) (c .before .sound-process .ensures) ∙ not-true _ (c .if6 .taken)))
+
+zero-process-requires : tie.Need-zero-process-requires Inv-loop μ-loop
+zero-process-requires c κs = search needs
+
+returns-6 : tie.Need-returns-6 Inv-loop μ-loop
+returns-6 c =
+    let s = c .before .before in
+    let o = s .before .before in
+    unsound _ (unused-fails (o .before .loop .inv) _ (s .if5 .left) (o .loop-test .taken) (sym (c .before .zero-process .ensures) ∙ not-true _ (c .if7 .taken)))
+
+add-i : tie.Need-add-i Inv-loop μ-loop
+add-i c = search needs
+
+loop-less : tie.Need-loop-less Inv-loop μ-loop
+loop-less c = search needs
+
+loop-again : tie.Need-loop-again Inv-loop μ-loop
+loop-again c =
+    let o = c .before .before in
+    let p = o .before .loop .inv in
+    let l = o .loop-test .taken in
+    let g = o .before .before .before .before in
+    ⊎-elim
+    (λ w. rw (w .7) (placed-live p _ (w .0 .taken) (w .2 .ensures .1) (omega (arith, w .2 .ensures .0, ranges (o .before .before .before .before .before .before .before .before .before .before .before .before .before .before) .1))
+    (sound-told _ _ _ (g .before .before .waiters-of .ensures) (not-false _ (g .if4 .left)) (w .4 .ensures .1) (w .5 .ensures) ∙ not-false _ (w .6 .left)) l))
+    (λ w. rw (w .3) (placed-unused p _ (w .0 .left) l (sym (w .1 .ensures) ∙ not-false _ (w .2 .left))))
+    (c .if5 .came)
+
+cast-result : tie.Need-cast-result Inv-loop μ-loop
+cast-result c = search needs
+
+returns-7 : tie.Need-returns-7 Inv-loop μ-loop
+returns-7 c =
+    let g = c .before .before .before .before in
+    let e = g .before .before .before .before .before .before .before .before .before .before in
+    let s = e .before .before .args .t1 in
+    let w = g .before .before .waiters-of in
+    let n : length (s .table .rows) ≡ 32 = simp length-map at (e .before .before .good .0 .1 .1 .1 .1 .0 .1 .1 .0 .1 .0 .1) in
+    let k = not-false _ (g .if4 .left) in
+    let o = owners-told (s .table) _ n (ranges e .1) (w .ensures .everyone k) in
+    let f = g .before .before .before .before .before .before .before in
+    placed-all (c .before .loop .inv) (c .loop-test .left) (ranges e .0) (o .0) (o .1)
+    (sym (e .before .counts-fit .ensures) ∙ not-false _ (e .if1 .left))
+    (sym (g .before .before .before .before .before .unused-rows .ensures) ∙ not-false _ (g .before .before .before .before .if3 .left))
+    (rw (← f .before .before .pids-of .ensures) (sym (f .before .pids-fit .ensures) ∙ not-false _ (f .if2 .left)))
+    (sym (w .ensures .alone) ∙ k)
 
 pub is-sound-spec : {M : Type 1} → statement M
 is-sound-spec =
     tie.close
     (tie.spec
+    Inv-loop
+    μ-loop
+    counts-fit-requires
     returns
-    returns-2
-    returns-3
-    unused-processes-requires
-    returns-4
-    unused-rows-requires
-    returns-5
     pids-of-requires
     pids-fit-requires
-    returns-6
-    sound-rows-requires
-    returns-7
+    returns-2
+    unused-rows-requires
+    returns-3
     waiters-of-requires
-    returns-8
-    sound-processes-requires
-    returns-9)
+    returns-4
+    loop-holds
+    mul-p
+    element-copy-out-p
+    rows-of-requires
+    add-owned
+    rows-of-requires-2
+    cast-sound-process
+    sound-process-requires
+    returns-5
+    zero-process-requires
+    returns-6
+    add-i
+    loop-less
+    loop-again
+    cast-result
+    returns-7)

@@ -1,6 +1,6 @@
--- `soundness::rows::waiting_rows` meets its contract: k of the first i owners are the process. Assumes nothing.
-use Rattle.soundness.proofs.rows.waiting_rows.Statement.{statement}
-use Rattle.soundness.proofs.rows.waiting_rows.Tie as tie
+-- `soundness::rows::rows_of` meets its contract: k of the first i owners are the process. Assumes nothing.
+use Rattle.soundness.proofs.rows.rows_of.Statement.{statement}
+use Rattle.soundness.proofs.rows.rows_of.Tie as tie
 use borrow.Author.Needs.{needs}
 use Prim.Native.Nat.{ℕ, _-_, _≤_}
 use native.Mathlib.Omega.{arith}
@@ -17,19 +17,19 @@ abbrev own : ℕ → List ℕ → ℕ → Bool
 own pid _ x = eqb x pid
 
 abbrev Inv-loop : tie.InvT-loop
-Inv-loop n pid owners k₀ i₀ k i = Walk owners 32 n n i × ((k ≤ i) × (k ≡ length (sifted (own pid) owners i)))
+Inv-loop owners n pid k₀ i₀ k i = Walk owners 32 n n i × ((k ≤ i) × (k ≡ length (sifted (own pid) owners i)))
 
 abbrev μ-loop : tie.MeasureT-loop
-μ-loop n pid owners k₀ i₀ k i = n - i
+μ-loop owners n pid k₀ i₀ k i = n - i
 
 loop-holds : tie.Need-loop-holds Inv-loop μ-loop
-loop-holds c = (walk-start _ _ _ _ (search needs) (search needs), (search needs, refl))
+loop-holds c = (walk-start _ _ _ _ (c .pre .1) (search needs), (search needs, refl))
 
 mul-if1 : tie.Need-mul-if1 Inv-loop μ-loop
 mul-if1 c = search needs
 
-array-read-if1 : tie.Need-array-read-if1 Inv-loop μ-loop
-array-read-if1 c = search needs
+element-copy-out-if1 : tie.Need-element-copy-out-if1 Inv-loop μ-loop
+element-copy-out-if1 c = search needs
 
 add-k : tie.Need-add-k Inv-loop μ-loop
 add-k c = search needs
@@ -42,7 +42,7 @@ loop-less c = search needs
 
 loop-again : tie.Need-loop-again Inv-loop μ-loop
 loop-again c =
-    let s = c .before in
+    let s = c .before .before in
     let inv = s .before .loop .inv in
     let l = s .loop-test .taken in
     let f = own (s .before .before .args .pid) in (
@@ -56,17 +56,17 @@ returns : tie.Need-returns Inv-loop μ-loop
 returns c =
     let inv = c .before .loop .inv in
     let a = c .before .before .args in
-    rw (← walk-end (inv .0) (c .loop-test .left), ← keep-sift (λ x. eqb x (a .pid)) [] (take (c .before .loop .i) (a .t1))) (inv .1 .1)
+    (omega (arith, inv .1 .0, inv .0 .inside), rw (← walk-end (inv .0) (c .loop-test .left), ← keep-sift (λ x. eqb x (a .pid)) [] (take (c .before .loop .i) (a .owners .now))) (inv .1 .1))
 
-pub waiting-rows-spec : {M : Type 1} → statement M
-waiting-rows-spec =
+pub rows-of-spec : {M : Type 1} → statement M
+rows-of-spec =
     tie.close
     (tie.spec
     Inv-loop
     μ-loop
     loop-holds
     mul-if1
-    array-read-if1
+    element-copy-out-if1
     add-k
     add-i
     loop-less

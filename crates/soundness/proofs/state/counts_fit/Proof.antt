@@ -1,0 +1,16 @@
+-- `soundness::state::counts_fit` meets its contract. Assumes nothing.
+use Rattle.soundness.proofs.state.counts_fit.Statement.{statement}
+use Rattle.soundness.proofs.state.counts_fit.Tie as tie
+use borrow.Author.Tests.{le-leb, lt-leb}
+
+returns : tie.Need-returns
+returns c = rw (lt-leb _ _ (c .if1 .taken))
+
+returns-2 : tie.Need-returns-2
+returns-2 c = rw (le-leb _ _ (c .before .if1 .left), lt-leb _ _ (c .if2 .taken))
+
+returns-3 : tie.Need-returns-3
+returns-3 c = rw (le-leb _ _ (c .before .if1 .left), le-leb _ _ (c .if2 .left))
+
+pub counts-fit-spec : {M : Type 1} → statement M
+counts-fit-spec = tie.close (tie.spec returns returns-2 returns-3)
