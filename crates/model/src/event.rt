@@ -113,7 +113,7 @@ pub fn advance(s: State, e: Event) -> Stepped
         };
     }
     if e.kind == 2 {
-        return settle(s, pass(s), 0);
+        return tick(s);
     }
     let mut i: usize = 0;
     while i < s.live && s.procs[i].pid != e.caller {

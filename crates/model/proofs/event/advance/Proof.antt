@@ -12,7 +12,6 @@ use mathlib.Core.Logic.{⊎-elim}
 use lib.ListN.{getD, take, length-map}
 use Rattle.locks.specs.Lists.{between}
 use Rattle.rules.specs.State.{view, pids, sleeps}
-use Rattle.rules.specs.Outcome.{done}
 use Rattle.rules.specs.Signals.{taken}
 use Rattle.rules.specs.Calls.{ownCall}
 use Rattle.rules.specs.Sound.{sound}
@@ -25,8 +24,7 @@ use Rattle.model.specs.declared.event.Course.{Course}
 use Rattle.model.specs.Laid.{Lays, Caller, placeOf}
 use Rattle.model.specs.Course.{follows, OfEvent}
 use Rattle.model.proofs.event.advance.Lts as lts
-use Rattle.model.proofs.Laying.{lays-own, Seeking, seeking, seek, sought-among, unsought-among}
-use Rattle.model.proofs.Masks.{settled-as}
+use Rattle.model.proofs.Laying.{Seeking, seeking, seek, sought-among, unsought-among}
 use Rattle.model.proofs.Kept.{keeps, own-pids, taken-pids, reported-pids}
 use Rattle.model.proofs.Locks.{caller-fits}
 use Rattle.model.proofs.Sound.{sound-lays}
@@ -83,17 +81,14 @@ returns c =
     ⊎-elim (λ w. rw (lt-leb _ _ (w .taken))) (λ w. rw (le-leb _ _ (w .0 .left), lt-leb _ _ (ltb-true 4 k (w .1 .taken)))) (c .before .if1 .came) in
     advanced _ _ (s .pre) (rw (c .refusal .ensures) (bad-kind _ (s .args .e) h))
 
-pass-requires : tie.Need-pass-requires Inv-loop μ-loop
-pass-requires c κs = let s = c .before .before .before in lays _ (s .args .e) (s .good) (s .pre)
-
-settle-requires : tie.Need-settle-requires Inv-loop μ-loop
-settle-requires c κs = let s = c .before .before .before .before in (lays _ (s .args .e) (s .good) (s .pre), lays-own (c .pass .ensures))
+tick-requires : tie.Need-tick-requires Inv-loop μ-loop
+tick-requires c κs = let s = c .before .before .before in (lays _ (s .args .e) (s .good) (s .pre), sound-machine _ (s .pre))
 
 returns-2 : tie.Need-returns-2 Inv-loop μ-loop
 returns-2 c =
-    let s = c .before .before .before .before .before in
+    let s = c .before .before .before .before in
     advanced _ _ (s .pre)
-    (c .settle .ensures ∙ settled-as _ done (c .before .pass .ensures) ∙ ticks _ (s .args .e) (kind-range (s .args .e .kind) (c .before .before .before .before .if1 .left) (c .before .before .before .if2 .left)) (eq-eqb _ _ (c .before .before .if3 .taken)))
+    (c .tick .ensures ∙ ticks _ (s .args .e) (kind-range (s .args .e .kind) (c .before .before .before .if1 .left) (c .before .before .if2 .left)) (eq-eqb _ _ (c .before .if3 .taken)))
 
 loop-holds : tie.Need-loop-holds Inv-loop μ-loop
 loop-holds c = let s = c .before .before .before in seeking _ (lays _ (s .args .e) (s .good) (s .pre))
@@ -263,8 +258,7 @@ advance-spec =
     μ-loop
     refusal-requires
     returns
-    pass-requires
-    settle-requires
+    tick-requires
     returns-2
     loop-holds
     mul-if4
