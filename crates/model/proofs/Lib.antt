@@ -8,3 +8,4 @@ pub mod Sweep
 pub mod Comparing
 pub mod Locks
 pub mod Events
+pub mod Ticks
