@@ -6,8 +6,8 @@ use crate::text::show;
 use locks::rows::Row;
 use locks::rows::Table;
 use locks::rows::append;
+use locks::rows::is_waiting;
 use locks::rows::no_rows;
-use locks::rows::waiting_of;
 use locks::rows::without_owner;
 use locks::rows::without_twin;
 use locks::rows::without_waiting;
@@ -123,9 +123,9 @@ fn three_left(t: Table) {
 fn two_left(t: Table) {
     show(t);
     say(b"waiting rows of 4, of 5");
-    io::print_decimal(1, waiting_of(t, 4) as u64);
+    io::print_decimal(1, if is_waiting(t, 4) { 1 } else { 0 });
     io::write_all(1, b" ");
-    io::print_decimal(1, waiting_of(t, 5) as u64);
+    io::print_decimal(1, if is_waiting(t, 5) { 1 } else { 0 });
     say(b"");
     say(b"4 ends");
     show(without_owner(t, 4));

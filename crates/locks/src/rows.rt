@@ -143,27 +143,6 @@ pub fn stands(t: Table, r: Row) -> Standing
     Standing::Free
 }
 
-// How many rows of that owner wait: in a sound state none or one.
-pub fn waiting_of(t: Table, owner: u16) -> usize
-    ensures { λ k. ⌜ k ≡ length (waitingOf owner (rowsOf t)) ⌝ }
-{
-    let n = least(t.used, 32);
-    let mut k: usize = 0;
-    let mut i: usize = 0;
-    while i < n {
-        let q = t.rows[i];
-        let mut waiting = false;
-        if q.owner == owner {
-            waiting = waits_behind(t, i, q);
-        }
-        if waiting {
-            k += 1;
-        }
-        i += 1;
-    }
-    k
-}
-
 // A row of that owner waits. A sleeper's row that waits is its last, so the loop goes backward.
 pub fn is_waiting(t: Table, owner: u16) -> bool
     ensures { λ b. ⌜ b ≡ not (isZero (length (waitingOf owner (rowsOf t)))) ⌝ }

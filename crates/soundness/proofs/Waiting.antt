@@ -147,22 +147,24 @@ module _ {rows : List Row} {used i : ℕ} {seen : List Bool} {lows highs lens : 
           let k : i < 32 = omega (arith, p .walk .fits) in record {
             inside = omega (arith, inside);
             each = λ a n. cases (eqb a i)
-                (λ h. rw
-                (eqb-true a i h,
-                getD-set-same lows i (w .low) 0 (rw (p .low-size) k),
-                getD-set-same highs i (w .high) 0 (rw (p .high-size) k),
-                getD-set-same lens i (getD rows i blank .len) 0 (rw (p .len-size) k),
-                getD-set-same every i (getD rows i blank .owner) 0 (rw (p .every-size) k),
-                getD-set-same shared i (getD rows i blank .shared) false (rw (p .shared-size) k))
+                (λ h. rw (
+                  eqb-true a i h,
+                  getD-set-same lows i (w .low) 0 (rw (p .low-size) k),
+                  getD-set-same highs i (w .high) 0 (rw (p .high-size) k),
+                  getD-set-same lens i (getD rows i blank .len) 0 (rw (p .len-size) k),
+                  getD-set-same every i (getD rows i blank .owner) 0 (rw (p .every-size) k),
+                  getD-set-same shared i (getD rows i blank .shared) false (rw (p .shared-size) k),
+                )
                 (record { row = t; long = refl; from = refl; kind = refl }))
                 (λ h.
                 let d : a ≡ i → ⊥ = eqb-false a i h in
-                rw
-                (getD-set-other lows i a (w .low) 0 d,
-                getD-set-other highs i a (w .high) 0 d,
-                getD-set-other lens i a (getD rows i blank .len) 0 d,
-                getD-set-other every i a (getD rows i blank .owner) 0 d,
-                getD-set-other shared i a (getD rows i blank .shared) false d)
+                rw (
+                  getD-set-other lows i a (w .low) 0 d,
+                  getD-set-other highs i a (w .high) 0 d,
+                  getD-set-other lens i a (getD rows i blank .len) 0 d,
+                  getD-set-other every i a (getD rows i blank .owner) 0 d,
+                  getD-set-other shared i a (getD rows i blank .shared) false d,
+                )
                 (p .noted .each a (omega arith)));
           }
 
