@@ -4,7 +4,7 @@ use Rattle.soundness.proofs.rows.meets.Tie as tie
 use borrow.Author.Needs.{needs}
 use Prim.Native.Nat.{_-_, _≤_}
 use native.Mathlib.Omega.{arith}
-use mathlib.Core.Path.{sym, _∙_}
+use mathlib.Core.Path.{_∙_}
 use mathlib.Core.List.{List}
 use mathlib.Core.Logic.{⊎-elim}
 use borrow.Author.Tests.{eqb-true, eqb-false}
@@ -68,18 +68,18 @@ loop-again c =
     let other = getD (g .shared .now) (s .before .loop .a) false in (
       search needs,
       λ rows m t. let p = s .before .loop .inv .1 rows m t in
-      ⊎-elim
-      (λ w. against-waits t m l p (others t m l (w .0 .taken) (eqb-true _ _ (w .3 .taken)) (eqb-true _ _ (w .6 .taken)) (w .9 .left))
-      (conflict-told t m l (w .0 .taken) (eqb-true _ _ (w .3 .taken)) (eqb-true _ _ (w .6 .taken)) (w .9 .left) ∙ ⊎-elim (λ z. one-not (g .r .shared) other (z .taken)) (λ z. other-not (g .r .shared) other (z .2 .taken)) (w .11 .came))
-      (w .12))
-      (⊎-elim
-      (λ w. against-passes t m l p (others t m l (w .0 .taken) (eqb-true _ _ (w .3 .taken)) (eqb-true _ _ (w .6 .taken)) (w .9 .left))
-      (conflict-told t m l (w .0 .taken) (eqb-true _ _ (w .3 .taken)) (eqb-true _ _ (w .6 .taken)) (w .9 .left) ∙ both (g .r .shared) other (w .11 .left) (w .13 .left))
-      (w .14))
-      (λ w.
-      let d = ⊎-elim (λ z e f g. eqb-false _ _ (z .6 .left) g) (⊎-elim (λ z e f g. eqb-false _ _ (z .3 .left) f) (λ z e f g. z .left e)) (w .0 .came) in
-      against-passes t m l p (no-twin t m l d) (no-conflict t m l d) (w .1)))
-      (c .if1 .came),
+          ⊎-elim
+          (λ w. against-waits t m l p (others t m l (w .0 .taken) (eqb-true _ _ (w .3 .taken)) (eqb-true _ _ (w .6 .taken)) (w .9 .left))
+          (conflict-told t m l (w .0 .taken) (eqb-true _ _ (w .3 .taken)) (eqb-true _ _ (w .6 .taken)) (w .9 .left) ∙ ⊎-elim (λ z. one-not (g .r .shared) other (z .taken)) (λ z. other-not (g .r .shared) other (z .2 .taken)) (w .11 .came))
+          (w .12))
+          (⊎-elim
+          (λ w. against-passes t m l p (others t m l (w .0 .taken) (eqb-true _ _ (w .3 .taken)) (eqb-true _ _ (w .6 .taken)) (w .9 .left))
+          (conflict-told t m l (w .0 .taken) (eqb-true _ _ (w .3 .taken)) (eqb-true _ _ (w .6 .taken)) (w .9 .left) ∙ both (g .r .shared) other (w .11 .left) (w .13 .left))
+          (w .14))
+          (λ w.
+          let d = ⊎-elim (λ z e f g. eqb-false _ _ (z .6 .left) g) (⊎-elim (λ z e f g. eqb-false _ _ (z .3 .left) f) (λ z e f g. z .left e)) (w .0 .came) in
+          against-passes t m l p (no-twin t m l d) (no-conflict t m l d) (w .1)))
+          (c .if1 .came),
     )
 
 returns-2 : tie.Need-returns-2 Inv-loop μ-loop
