@@ -1,5 +1,5 @@
 -- Loops that test the elements of an array in turn, by what is left of it. Assumes nothing.
-use Prim.Native.Nat.{ℕ, _+_, _-_, _≤_, _<_}
+use Prim.Native.Nat.{ℕ, _+_, _≤_, _<_}
 use native.Mathlib.Omega.{arith}
 use native.Mathlib.Numerals.{add-one}
 use mathlib.Core.Path.{_≡_, refl, sym, _∙_}
@@ -46,35 +46,24 @@ module _ {A : Type 0} where
     pub passed : n ≤ i → all f whole ≡ true
     passed l = p .same ∙ rw (left-none xs n i (p .fits) l)
 
--- ---- a loop that sums the elements from a place on, to learn whether all are zero
+-- ---- a loop that sums the elements, to learn whether all are zero
 
 pub zero-sum : (a b : ℕ) → isZero (a + b) ≡ (isZero a && isZero b)
 zero-sum a b =
     cases (eqb a 0) (λ e. let z : a ≡ 0 = eqb-true a 0 e in let m : a + b ≡ b = omega arith in rw (m, e))
     (λ e. let d : a ≡ 0 → ⊥ = eqb-false a 0 e in let m : a + b ≡ 0 → ⊥ = λ h. d (omega arith) in rw (ne-eqb (a + b) 0 m, e))
 
--- what is left at place i
-abbrev unsummed : List ℕ → ℕ → ℕ → List ℕ
-unsummed xs start i = drop (start + (i - start)) xs
+pub record Summing (xs : List ℕ) (i sum : ℕ) : Type 0 where
+  pub same : all isZero xs ≡ (isZero sum && all isZero (drop i xs))
 
-pub record Summing (xs : List ℕ) (start i sum : ℕ) : Type 0 where
-  pub same : all isZero (drop start xs) ≡ (isZero sum && all isZero (unsummed xs start i))
+pub sum-start : (xs : List ℕ) → Summing xs 0 0
+sum-start xs = record { same = refl }
 
-pub sum-start : (xs : List ℕ) (start : ℕ) → Summing xs start 0 0
-sum-start xs start = let e : start + (0 - start) ≡ start = omega arith in record { same = rw e }
+module _ {xs : List ℕ} {i sum : ℕ} (p : Summing xs i sum) where
+  pub sum-add : i < length xs → Summing xs (i + 1) (sum + getD xs i 0)
+  sum-add k =
+      let h : all isZero (drop i xs) ≡ (isZero (getD xs i 0) && all isZero (drop (i + 1) xs)) = rw (add-one i, drop-cons xs i 0 k) in
+      record { same = p .same ∙ rw (h, zero-sum sum (getD xs i 0)) (sym (and-assoc (isZero sum) (isZero (getD xs i 0)) (all isZero (drop (i + 1) xs)))) }
 
-module _ {xs : List ℕ} {start i sum : ℕ} (p : Summing xs start i sum) where
-  pub sum-skip : i < start → Summing xs start (i + 1) sum
-  sum-skip l = let e : start + (i + 1 - start) ≡ start + (i - start) = omega arith in record { same = rw e (p .same) }
-
-  pub sum-add : start ≤ i → i < length xs → Summing xs start (i + 1) (sum + getD xs i 0)
-  sum-add l k =
-      let e : start + (i - start) ≡ i = omega arith in
-      let f : start + (i + 1 - start) ≡ i + 1 = omega arith in
-      let h : all isZero (unsummed xs start i) ≡ (isZero (getD xs i 0) && all isZero (drop (i + 1) xs)) = rw (e, add-one i, drop-cons xs i 0 k) in
-      record { same = p .same ∙ rw (h, f, zero-sum sum (getD xs i 0)) (sym (and-assoc (isZero sum) (isZero (getD xs i 0)) (all isZero (drop (i + 1) xs)))) }
-
-  pub sum-end : length xs ≤ i → all isZero (drop start xs) ≡ isZero sum
-  sum-end l =
-      let m : length xs ≤ start + (i - start) = omega arith in
-      p .same ∙ rw (drop-of-length-le xs {i = start + (i - start)} m) (and-true (isZero sum))
+  pub sum-end : length xs ≤ i → all isZero xs ≡ isZero sum
+  sum-end l = p .same ∙ rw (drop-of-length-le xs {i = i} l) (and-true (isZero sum))

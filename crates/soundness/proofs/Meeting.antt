@@ -2,17 +2,17 @@
 use Prim.Native.Nat.{ℕ, _+_, _≤_, _<_}
 use native.Mathlib.Omega.{arith}
 use native.Mathlib.Numerals.{add-one}
-use mathlib.Core.Path.{_≡_, refl, sym, ap, _∙_}
+use mathlib.Core.Path.{_≡_, refl, sym, _∙_}
 use mathlib.Core.Bool.{Bool, true, false, cond, not, _&&_, _||_, and-false, or-false, or-true, false≢true}
 use mathlib.Core.List.{List}
 use lib.Dec.{eqb}
-use lib.ListN.{length, getD, take}
+use lib.ListN.{getD, take}
 use lib.Seq.{take-suc, getD-take, length-take-le}
 use borrow.Author.Tests.{eq-eqb, ne-eqb, leb-true, not-true, not-false}
-use Rattle.locks.specs.Lists.{any, between, agree}
+use Rattle.locks.specs.Lists.{any, agree}
 use Rattle.locks.specs.Rows.{sameSequence, conflict, twin, owns, waits}
 use Rattle.locks.specs.declared.rows.Row.{Row}
-use Rattle.locks.proofs.Tests.{cases, off, and-split}
+use Rattle.locks.proofs.Tests.{off, and-split}
 use Rattle.locks.proofs.Lists.{some-any, any-end, any-mono}
 use Rattle.soundness.specs.Waiting.{fitRow, Told, Note, blank, Noted, meeting}
 use Rattle.soundness.specs.declared.rows.Words.{Words}

@@ -1,5 +1,5 @@
 -- Every row has a live owner exactly where the rows of the live processes are all rows. Assumes nothing.
-use Prim.Native.Nat.{ℕ, zero, suc, _+_, _*_, _≤_, _<_}
+use Prim.Native.Nat.{ℕ, suc, _+_, _≤_, _<_}
 use native.Mathlib.Omega.{arith}
 use mathlib.Core.Path.{_≡_, refl, sym, ap, _∙_}
 use mathlib.Core.Bool.{Bool, true, false, _&&_, _||_, false≢true}
@@ -7,9 +7,9 @@ use mathlib.Core.List.{List, [], _∷_, _++_, map}
 use lib.Dec.{eqb, leb}
 use lib.ListN.{length}
 use borrow.Author.Tests.{eq-eqb, ne-eqb, eqb-true, eqb-false, leb-true}
-use Rattle.locks.specs.Lists.{all, any, keep, member}
+use Rattle.locks.specs.Lists.{all, keep, member}
 use Rattle.locks.specs.declared.rows.Row.{Row}
-use Rattle.locks.proofs.Tests.{cases, off, and-split, and-join}
+use Rattle.locks.proofs.Tests.{cases, and-split}
 use Rattle.locks.proofs.Fewer.{fewer-keep, fewer-length}
 use Rattle.rules.specs.Sound.{ascend, pidsFit}
 use Rattle.soundness.specs.Waiting.{ownerOf}

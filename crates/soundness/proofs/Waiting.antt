@@ -13,12 +13,12 @@ use borrow.Author.Tests.{eqb-true, eqb-false}
 use Rattle.locks.specs.Lists.{any, all, keep, sift, padded}
 use Rattle.locks.specs.Rows.{twin, waits, waitsOf, waitingOf, apart}
 use Rattle.locks.specs.declared.rows.Row.{Row}
-use Rattle.locks.proofs.Tests.{cases, off, and-split, and-join}
+use Rattle.locks.proofs.Tests.{cases, off, and-split}
 use Rattle.locks.proofs.Lists.{any-end, all-end}
 use Rattle.locks.proofs.Loops.{Walk, walk-start, walk-next, walk-end, in-list, done-length, padded-more, sifted, sifted-more, sifted-same, sifted-room}
 use Rattle.rules.specs.Sound.{lockFits, soundProcess}
 use Rattle.rules.specs.declared.state.Process.{Process}
-use Rattle.soundness.specs.Waiting.{fitRow, Told, Note, blank, Noted, meeting, ownerOf, Waiting, soundWaiting}
+use Rattle.soundness.specs.Waiting.{fitRow, Told, blank, Noted, meeting, ownerOf, Waiting, soundWaiting}
 use Rattle.soundness.specs.declared.rows.Words.{Words}
 use Rattle.soundness.specs.declared.rows.Waiters.{Waiters}
 use Rattle.soundness.proofs.Laws.{apart-more, not-apart}

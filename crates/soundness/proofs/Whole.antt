@@ -1,5 +1,5 @@
 -- What a sound state's parts are, and the loop over its sixteen places. Assumes nothing.
-use Prim.Native.Nat.{ℕ, zero, suc, _+_, _-_, _*_, _≤_, _<_}
+use Prim.Native.Nat.{ℕ, suc, _+_, _-_, _*_, _≤_, _<_}
 use native.Mathlib.Omega.{arith}
 use native.Mathlib.Numerals.{add-one}
 use mathlib.Core.Path.{_≡_, refl, sym, ap, _∙_}
@@ -7,7 +7,7 @@ use mathlib.Core.Bool.{Bool, true, false, not, _&&_, false≢true}
 use mathlib.Core.List.{List, [], _∷_, _++_, map, map-append}
 use lib.Dec.{eqb, leb}
 use lib.ListN.{length, getD, take, drop, length-map, drop-of-length-le}
-use lib.Seq.{drop-cons, getD-take, take-suc, take-take, take-all, length-take-le}
+use lib.Seq.{drop-cons, getD-take, take-suc, take-all, length-take-le}
 use borrow.Author.Tests.{leb-true, not-false}
 use Rattle.locks.specs.Lists.{all, between, isZero, member}
 use Rattle.locks.specs.Rows.{rowsOf, zeroRow, soundRow, apart}
@@ -20,7 +20,7 @@ use Rattle.rules.specs.Sound.{zeroProcess, pidsFit, soundProcess, sound, soundM
 use Rattle.rules.specs.declared.state.Process.{Process}
 use Rattle.rules.specs.declared.state.State.{State}
 use Rattle.soundness.specs.Waiting.{fitRow, ownerOf}
-use Rattle.soundness.proofs.Loops.{left, left-none, Passing, first, pass, fail, passed}
+use Rattle.soundness.proofs.Loops.{left-none, Passing, first, pass, fail, passed}
 use Rattle.soundness.proofs.Laws.{take-pids}
 use Rattle.soundness.proofs.Owners.{rowsFor, rowsForAll, rows-for-end, owners-live}
 

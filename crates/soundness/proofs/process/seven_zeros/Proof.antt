@@ -11,13 +11,13 @@ use mir.Syntax.{w32}
 use Rattle.soundness.proofs.Loops.{Summing, sum-start, sum-add, sum-end}
 
 abbrev Inv-loop : tie.InvT-loop
-Inv-loop a sum₀ i₀ sum i = (sum ≤ 4294967296 * i) × Summing a 0 i sum
+Inv-loop a sum₀ i₀ sum i = (sum ≤ 4294967296 * i) × Summing a i sum
 
 abbrev μ-loop : tie.MeasureT-loop
 μ-loop a sum₀ i₀ sum i = 7 - i
 
 loop-holds : tie.Need-loop-holds Inv-loop μ-loop
-loop-holds c = (search needs, sum-start _ 0)
+loop-holds c = (search needs, sum-start _)
 
 mul-sum : tie.Need-mul-sum Inv-loop μ-loop
 mul-sum c = search needs
@@ -42,7 +42,7 @@ loop-again c =
     let h : Fits w32 (getD (c .before .before .args .t1) (c .before .loop .i) 0) = search needs in
     let l : length (c .before .before .args .t1) ≡ 7 = search needs in
     let k : c .before .loop .i < length (c .before .before .args .t1) = omega (arith, c .loop-test .taken) in
-    (search needs, sum-add (c .before .loop .inv .1) (omega arith) k)
+    (search needs, sum-add (c .before .loop .inv .1) k)
 
 returns : tie.Need-returns Inv-loop μ-loop
 returns c =

@@ -1,3 +1,4 @@
+-- `soundness::rows::ends_at` meets its contract. Assumes nothing.
 use borrow.Author.Needs.{needs}
 use Rattle.soundness.proofs.rows.ends_at.Statement.{statement}
 use Rattle.soundness.proofs.rows.ends_at.Tie as tie

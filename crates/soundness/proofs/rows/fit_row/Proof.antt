@@ -1,3 +1,4 @@
+-- `soundness::rows::fit_row` meets its contract. Assumes nothing.
 use borrow.Author.Needs.{needs}
 use Rattle.soundness.proofs.rows.fit_row.Statement.{statement}
 use Rattle.soundness.proofs.rows.fit_row.Tie as tie

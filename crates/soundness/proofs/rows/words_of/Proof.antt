@@ -1,3 +1,4 @@
+-- `soundness::rows::words_of` meets its contract. Assumes nothing.
 use borrow.Author.Needs.{needs}
 use Rattle.soundness.proofs.rows.words_of.Statement.{statement}
 use Rattle.soundness.proofs.rows.words_of.Tie as tie

@@ -1,3 +1,4 @@
+-- `soundness::rows::zero_row` meets its contract. Assumes nothing.
 use borrow.Author.Needs.{needs}
 use Rattle.soundness.proofs.rows.zero_row.Statement.{statement}
 use Rattle.soundness.proofs.rows.zero_row.Tie as tie

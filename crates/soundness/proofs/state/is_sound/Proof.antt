@@ -8,7 +8,6 @@ use mathlib.Core.Path.{_≡_, sym, _∙_}
 use mathlib.Core.Logic.{⊎-elim}
 use lib.ListN.{length, take, length-map}
 use borrow.Author.Tests.{not-true, not-false}
-use Rattle.locks.specs.Rows.{rowsOf}
 use Rattle.soundness.proofs.Waiting.{sound-told}
 use Rattle.soundness.proofs.Whole.{in-range, unsound, no, Placed, placed-none, placed-live, live-fails, placed-unused, unused-fails, owners-told, placed-all}
 
