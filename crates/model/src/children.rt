@@ -46,8 +46,8 @@ pub(crate) fn fshell(s: State, i: usize, p: Process, e: Event) -> Stepped
     }
 }
 
-pub(crate) fn exit(s: State, p: Process) -> Stepped
-    requires { ⌜ Lays s (view s) ⌝ }
+pub(crate) fn exit(s: State, i: usize, p: Process) -> Stepped
+    requires { ⌜ Caller s i p ⌝ }
     ensures { λ x. ⌜ x ≡ settled s (doExit p (view s)) ⌝ }
 {
     if p.pid == 1 {
@@ -56,7 +56,7 @@ pub(crate) fn exit(s: State, p: Process) -> Stepped
             state: s,
         };
     }
-    settle(s, end_process(s, p.pid), 2)
+    end_process(s, p.pid, 2)
 }
 
 // Caller ended, or done where it lives on.

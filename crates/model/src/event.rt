@@ -135,7 +135,7 @@ pub fn advance(s: State, e: Event) -> Stepped
         Course::Lock => lock(s, i, p, e),
         Course::Unlock => unlock(s, i, p, e),
         Course::Kill => kill(s, p, e),
-        Course::Exit => exit(s, p),
+        Course::Exit => exit(s, i, p),
         Course::FShell => fshell(s, i, p, e),
         Course::Take => keep(s, i, take(p)),
         Course::Report => keep(s, i, report(p)),

@@ -186,7 +186,7 @@ enum-told-4 : tie.Need-enum-told-4 Inv-loop μ-loop
 enum-told-4 c = search needs
 
 exit-requires : tie.Need-exit-requires Inv-loop μ-loop
-exit-requires c κs = c .before .before .before .before .before .before .before .loop .inv .lays
+exit-requires c κs = caller (c .before .before .before .before) _ (c .before .before .before .before .if6 .left)
 
 enum-told-5 : tie.Need-enum-told-5 Inv-loop μ-loop
 enum-told-5 c = search needs
