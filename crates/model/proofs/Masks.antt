@@ -29,7 +29,7 @@ abbrev pub Quiet : Machine → Machine → Type 0
 Quiet m after = (wokenMask m after ≡ 0) × (endedMask m after ≡ 0)
 
 -- where PIDs ascend, each process is the one of its PID: tests that agree on those make one mask
-mask-alike : (f g : Process → Bool) (low : ℕ) (ps : List Process) (next : ℕ) → ascend low (pids ps) next ≡ true → ((n : ℕ) → member n (pids ps) ≡ true → f (firstOf n ps) ≡ g (firstOf n ps)) → mask f ps ≡ mask g ps
+pub mask-alike : (f g : Process → Bool) (low : ℕ) (ps : List Process) (next : ℕ) → ascend low (pids ps) next ≡ true → ((n : ℕ) → member n (pids ps) ≡ true → f (firstOf n ps) ≡ g (firstOf n ps)) → mask f ps ≡ mask g ps
 unfolding ascend firstOf
 mask-alike f g low [] next up h = refl
 mask-alike f g low (p ∷ ps) next up h =
@@ -64,7 +64,7 @@ quiet-masks m after o alive asleep = (
 
 -- ---- the same processes; one of them in its place; one more
 
-first-put : (q : Process) (n : ℕ) (ps : List Process) → eqb (q .pid) n ≡ false → firstOf n (inPlace q ps) ≡ firstOf n ps
+pub first-put : (q : Process) (n : ℕ) (ps : List Process) → eqb (q .pid) n ≡ false → firstOf n (inPlace q ps) ≡ firstOf n ps
 unfolding firstOf inPlace
 first-put q n [] d = refl
 first-put q n (p ∷ ps) d =
@@ -97,7 +97,7 @@ born-masks c m o =
 
 -- ---- each changed in its place
 
-first-map : (f : Process → Process) → ((p : Process) → f p .pid ≡ p .pid) → (n : ℕ) (ps : List Process) → member n (pids ps) ≡ true → firstOf n (map f ps) ≡ f (firstOf n ps)
+pub first-map : (f : Process → Process) → ((p : Process) → f p .pid ≡ p .pid) → (n : ℕ) (ps : List Process) → member n (pids ps) ≡ true → firstOf n (map f ps) ≡ f (firstOf n ps)
 unfolding firstOf
 first-map f k n [] h = absurd (false≢true h)
 first-map f k n (p ∷ ps) h =

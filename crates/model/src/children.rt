@@ -11,7 +11,7 @@ ghost use Rattle.rules.specs.State.{view};
 ghost use Rattle.rules.specs.Calls.{doExit, outlived, sendKill};
 ghost use Rattle.rules.specs.Step.{settled};
 ghost use Rattle.processes.specs.Told.{toldNo};
-ghost use Rattle.model.specs.Laid.{Lays, BornAs};
+ghost use Rattle.model.specs.Laid.{Lays, Caller, BornAs};
 
 const BADCALL: u8 = 5;
 
@@ -63,8 +63,8 @@ pub(crate) fn fshell(i: usize, p: Process, e: Event, live: usize, next: u32) -> 
     }
 }
 
-pub(crate) fn exit(s: State, p: Process) -> Stepped
-    requires { ⌜ Lays s (view s) ⌝ }
+pub(crate) fn exit(s: State, i: usize, p: Process) -> Stepped
+    requires { ⌜ Caller s i p ⌝ }
     ensures { λ x. ⌜ x ≡ settled s (doExit p (view s)) ⌝ }
 {
     if p.pid == 1 {
@@ -73,7 +73,7 @@ pub(crate) fn exit(s: State, p: Process) -> Stepped
             state: s,
         };
     }
-    settle(s, end_process(s, p.pid), 2)
+    end_process(s, p.pid, 2)
 }
 
 // Caller ended, or done where it lives on.

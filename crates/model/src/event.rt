@@ -136,7 +136,7 @@ pub fn advance(mut s: State, e: Event) -> Stepped
             return kill(s, p, e);
         }
         Course::Exit => {
-            return exit(s, p);
+            return exit(s, i, p);
         }
     };
     let q = x.process;

@@ -1,44 +1,58 @@
 // A process ends; a signal arrives.
+use crate::answers::*;
 use crate::state::*;
 use locks::rows::*;
 use processes::*;
 use rules::state::*;
 ghost use mathlib.Core.Path.{_≡_};
+ghost use mathlib.Core.Bool.{not, _&&_};
 ghost use Prim.Native.Nat.{_≤_};
-ghost use Rattle.locks.specs.Rows.{withoutWaiting};
-ghost use Rattle.rules.specs.State.{view, put, rowsLeft};
-ghost use Rattle.rules.specs.Signals.{gone, ends, roused, trapped, arrives};
-ghost use Rattle.model.specs.Laid.{Lays};
+ghost use Rattle.locks.specs.Rows.{withoutOwner, withoutWaiting};
+ghost use Rattle.locks.specs.Lists.{mask};
+ghost use Rattle.rules.specs.State.{view, has, put, granted, rowsLeft};
+ghost use Rattle.rules.specs.Signals.{ends, roused, trapped, arrives};
+ghost use Rattle.model.specs.Laid.{Lays, wakesBy, masked};
 
-// Those behind it move up.
-fn leave(s: State, pid: u16) -> State
+// The process of that PID ends and its rows go; those behind it move up, and who waited for those rows alone wakes.
+pub(crate) fn end_process(mut s: State, pid: u16, kind: u8) -> Stepped
     requires { ⌜ Lays s (view s) ⌝ }
-    ensures { λ r. ⌜ Lays r (gone pid (view s)) ⌝ }
-{
-    let z = no_process();
-    let mut t = s;
-    t.procs = [z; 16];
-    let mut k: usize = 0;
-    let mut i: usize = 0;
-    while i < s.live {
-        let p = s.procs[i];
-        if p.pid != pid {
-            t.procs[k] = p;
-            k += 1;
-        }
-        i += 1;
-    }
-    t.live = k;
-    t
-}
-
-pub(crate) fn end_process(s: State, pid: u16) -> State
-    requires { ⌜ Lays s (view s) ⌝ }
-    ensures { λ r. ⌜ Lays r (ends pid (view s)) ⌝ }
+    ensures { λ r. ⌜ Lays (r .state) (ends pid (view s)) × (r .answer ≡ masked kind (mask (λ p. not (has pid p) && wakesBy (granted (withoutOwner pid (view s .rows))) p) (view s .procs)) (mask (has pid) (view s .procs))) ⌝ }
 {
     let t = without_owner(s.table, pid);
-    let r = rows_left(s, t);
-    leave(r.state, pid)
+    s.table = t;
+    let z = no_process();
+    let n = s.live;
+    let mut woken: u32 = 0;
+    let mut ended: u32 = 0;
+    let mut bit: u32 = 1;
+    let mut k: usize = 0;
+    let mut i: usize = 0;
+    while i < n {
+        let p = s.procs[i];
+        if p.pid == pid {
+            ended += bit;
+        } else {
+            let mut q = p;
+            if p.rest.sleep == 2 {
+                if !is_waiting(t, p.pid) {
+                    q = woken_by(p, 1, 0);
+                    woken += bit;
+                }
+            }
+            s.procs[k] = q;
+            k += 1;
+        }
+        if k <= i {
+            s.procs[i] = z;
+        }
+        bit *= 2;
+        i += 1;
+    }
+    s.live = k;
+    Stepped {
+        answer: with_masks(kind, woken as u16, ended as u16),
+        state: s,
+    }
 }
 
 fn rouse(p: Process) -> Process
@@ -86,7 +100,8 @@ pub(crate) fn arrive(s: State, signal: usize, pid: u16) -> State
         return s;
     }
     if a == 0 {
-        return end_process(s, pid);
+        let r = end_process(s, pid, 0);
+        return r.state;
     }
     trap_at(s, signal, a, pid, p)
 }

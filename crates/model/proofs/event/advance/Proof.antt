@@ -184,7 +184,8 @@ enum-told-7 : tie.Need-enum-told-7 Inv-loop μ-loop
 enum-told-7 c = search needs
 
 exit-requires : tie.Need-exit-requires Inv-loop μ-loop
-exit-requires c κs = c .before .before .before .before .before .loop .inv .0 .lays
+unfolding acts
+exit-requires c κs = acting (c .before .before .before .before) _ (c .before .before .course-of .ensures) (c .enum-told7 .given .1) refl
 
 returns-4 : tie.Need-returns-4 Inv-loop μ-loop
 unfolding follows

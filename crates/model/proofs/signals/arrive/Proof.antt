@@ -2,9 +2,6 @@
 use borrow.Author.Needs.{needs}
 use Rattle.model.proofs.signals.arrive.Statement.{statement}
 use Rattle.model.proofs.signals.arrive.Tie as tie
-use Rattle.model.proofs.signals.end_process.Reads as end-process-reads
-use Rattle.model.proofs.signals.trap_at.Reads as trap-at-reads
-use Rattle.model.proofs.state.find.Reads as find-reads
 use borrow.Author.Tests.{eq-eqb, ne-eqb}
 use Rattle.rules.specs.Signals.{reacts, arrives}
 
@@ -29,7 +26,7 @@ end-process-requires c κs = search needs
 
 returns-2 : tie.Need-returns-2
 unfolding arrives reacts
-returns-2 c = let f = c .before .before .before .before .before in rw (← f .find .ensures, ne-eqb _ 1 (c .before .before .if1 .left), eq-eqb _ 0 (c .before .if2 .taken)) (c .end-process .ensures)
+returns-2 c = let f = c .before .before .before .before .before .before in rw (← f .find .ensures, ne-eqb _ 1 (c .before .before .before .if1 .left), eq-eqb _ 0 (c .before .before .if2 .taken)) (c .before .end-process .ensures .0)
 
 trap-at-requires : tie.Need-trap-at-requires
 trap-at-requires c κs = search needs

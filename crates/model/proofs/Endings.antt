@@ -1,0 +1,308 @@
+-- A process ends: a loop that packs the others where they stand and marks who wakes and who ends. Assumes nothing.
+use Prim.Native.Nat.{ℕ, zero, suc, _+_, _-_, _*_, _≤_, _<_}
+use native.Mathlib.Nat.{le-trans}
+use native.Mathlib.Omega.{arith}
+use native.Mathlib.Numerals.{add-one}
+use mathlib.Core.Path.{_≡_, refl, sym, ap, subst, _∙_}
+use mathlib.Core.Bool.{Bool, true, false, cond, not, _&&_, and-true, false≢true}
+use mathlib.Core.List.{List, [], _∷_, _++_, map, append-assoc, append-nil, map-append}
+use lib.Dec.{eqb}
+use lib.ListN.{length, getD, take, drop, set, replicate, length-append, length-map, length-replicate, replicate-append-replicate}
+use lib.Seq.{take-suc, drop-cons, set-at, getD-at}
+use borrow.Author.Tests.{eq-eqb, ne-eqb, eqb-true, eqb-false}
+use Rattle.locks.specs.Lists.{mask, member, keep, consIf, padded}
+use Rattle.locks.proofs.Tests.{cases}
+use Rattle.locks.specs.Rows.{owns, rowsOf, laidRows, withoutOwner}
+use Rattle.locks.specs.declared.rows.Row.{Row}
+use Rattle.locks.specs.declared.rows.Table.{Table}
+use Rattle.locks.proofs.Fewer.{fewer-keep, fewer-length}
+use Rattle.rules.specs.State.{Machine, noProcess, view, laid, has, pids, sleeps, lives, firstOf, processOf, granted, rowsLeft}
+use Rattle.rules.specs.Outcome.{Kind, kindOf, answered}
+use Rattle.rules.specs.Sound.{ascend}
+use Rattle.rules.specs.Step.{wokenMask, endedMask, settled}
+use Rattle.rules.specs.Signals.{gone, ends}
+use Rattle.rules.specs.declared.state.Answer.{Answer}
+use Rattle.rules.specs.declared.state.Process.{Process}
+use Rattle.rules.specs.declared.state.State.{State}
+use Rattle.rules.specs.declared.state.Stepped.{Stepped}
+use Rattle.rules.proofs.Frame.{Ok, fit-ascend, first-pid, pids-map}
+use Rattle.rules.proofs.Rows.{granted-pid}
+use Rattle.model.specs.Laid.{Lays, Tidy, stored, wakesBy, masked}
+use Rattle.model.proofs.Laying.{lays-live, lays-fits, lays-long, lays-unused, tidy, table-rows}
+use Rattle.model.proofs.Marks.{Marked, marked, mark, mark-bit, mark-small}
+use Rattle.model.proofs.Masks.{mask-alike, first-map, settled-masked}
+use Rattle.model.proofs.Sweep.{tabled}
+
+-- ---- lists with a gap
+
+module _ {A : Type 0} where
+  keep-end : (g : A → Bool) (xs : List A) (x : A) → keep g (xs ++ x ∷ []) ≡ keep g xs ++ consIf (g x) x []
+  keep-end g [] x = refl
+  keep-end g (y ∷ xs) x = rw (keep-end g xs x) (go (g y))
+    where
+      go : (b : Bool) → consIf b y (keep g xs ++ consIf (g x) x []) ≡ consIf b y (keep g xs) ++ consIf (g x) x []
+      go true = refl
+      go false = refl
+
+  gap-end : (j : ℕ) (z : A) (rest : List A) → replicate j z ++ z ∷ rest ≡ replicate (suc j) z ++ rest
+  gap-end zero z rest = refl
+  gap-end (suc j) z rest = ap (λ (l : List A). z ∷ l) (gap-end j z rest)
+
+  -- what stands behind the gap goes: one place more is empty
+  gap-more : (us : List A) (j : ℕ) (z x : A) (rest : List A) (i : ℕ) → length us + j ≡ i → set (us ++ replicate j z ++ x ∷ rest) i z ≡ us ++ replicate (suc j) z ++ rest
+  gap-more us j z x rest i e =
+      let n : length (us ++ replicate j z) ≡ i = length-append us (replicate j z) ∙ ap (λ (k : ℕ). length us + k) (length-replicate j z) ∙ e in
+      set-at (us ++ replicate j z) x rest z i n
+      ∙ append-assoc us (replicate j z) (z ∷ rest)
+      ∙ ap (λ (l : List A). us ++ l) (gap-end j z rest)
+      ∙ sym (append-assoc us (replicate (suc j) z) rest)
+
+  -- the first place of the gap is used
+  gap-less : (us : List A) (j : ℕ) (z x : A) (rest : List A) (k : ℕ) → length us ≡ k → set (us ++ replicate (suc j) z ++ rest) k x ≡ us ++ x ∷ [] ++ replicate j z ++ rest
+  gap-less us j z x rest k e =
+      ap (λ (l : List A). set l k x) (append-assoc us (replicate (suc j) z) rest)
+      ∙ set-at us z (replicate j z ++ rest) x k e
+      ∙ sym (append-assoc us (x ∷ []) (replicate j z ++ rest))
+      ∙ sym (append-assoc (us ++ x ∷ []) (replicate j z) rest)
+
+  module _ (us : List A) (z x : A) (rest : List A) {k i : ℕ} (e : length us ≡ k) where
+    gap-goes : k ≤ i → set (us ++ replicate (i - k) z ++ x ∷ rest) i z ≡ us ++ replicate (i + 1 - k) z ++ rest
+    gap-goes l =
+        let h : i + 1 - k ≡ suc (i - k) = omega arith in
+        rw h (gap-more us (i - k) z x rest i (omega (arith, e)))
+
+    gap-moves : (q : A) → k + 1 ≤ i → set (set (us ++ replicate (i - k) z ++ x ∷ rest) k q) i z ≡ us ++ q ∷ [] ++ replicate (i + 1 - (k + 1)) z ++ rest
+    gap-moves q l =
+        let h : i - k ≡ suc (i - (k + 1)) = omega arith in
+        let g : i + 1 - (k + 1) ≡ suc (i - (k + 1)) = omega arith in
+        let m : length (us ++ q ∷ []) + (i - (k + 1)) ≡ i = rw (length-append us (q ∷ []), e) (omega arith) in
+        rw (h, g)
+        (ap (λ (l : List A). set l i z) (gap-less us (i - (k + 1)) z q (x ∷ rest) k e) ∙ gap-more (us ++ q ∷ []) (i - (k + 1)) z x rest i m)
+
+    gap-none : (q : A) → k ≡ i → set (us ++ replicate (i - k) z ++ x ∷ rest) k q ≡ us ++ q ∷ [] ++ replicate (i + 1 - (k + 1)) z ++ rest
+    gap-none q l =
+        let h : i - k ≡ 0 = omega arith in
+        let g : i + 1 - (k + 1) ≡ 0 = omega arith in
+        rw (h, g, append-nil us, append-nil (us ++ q ∷ []))
+        (set-at us x rest q k e ∙ sym (append-assoc us (q ∷ []) rest))
+
+-- ---- the loop
+
+abbrev stays : ℕ → Process → Bool
+stays n p = not (has n p)
+
+-- who stays of the first i, as f has changed them
+abbrev kept : ℕ → (Process → Process) → List Process → ℕ → List Process
+kept n f ps i = keep (stays n) (map f (take i ps))
+
+-- who stays of the first i is packed, k in number, before a gap of empty places; the others stand where they stood
+pub record Ending (n : ℕ) (f : Process → Process) (table : Table) (s t : State) (w e bit k i : ℕ) : Type 0 where
+  pub inside : i ≤ s .live
+  pub fits : s .live ≤ 16
+  pub long : length (s .procs) ≡ 16
+  pub behind : k ≤ i
+  pub count : k ≡ length (kept n f (s .procs) i)
+  pub is : t ≡ record { procs = kept n f (s .procs) i ++ replicate (i - k) noProcess ++ drop i (s .procs); live = s .live; table = table; next = s .next }
+  pub woken : Marked (λ p. stays n p && wakesBy f p) (s .procs) w bit i
+  pub ended : Marked (has n) (s .procs) e bit i
+  pub few-woken : w < 65536
+  pub few-ended : e < 65536
+  pub bound : bit ≤ 65536
+
+pub ending : (n : ℕ) (f : Process → Process) (table : Table) {s : State} → Lays s (view s) → Ending n f table (tabled table s) (tabled table s) 0 0 1 0 0
+ending n f table l =
+    record {
+      inside = omega arith;
+      fits = lays-fits l;
+      long = lays-long l;
+      behind = omega arith;
+      count = refl;
+      is = refl;
+      woken = marked (λ p. stays n p && wakesBy f p) _;
+      ended = marked (has n) _;
+      few-woken = omega arith;
+      few-ended = omega arith;
+      bound = omega arith;
+    }
+
+-- one more is done, but for its own place, which is to be cleared where k has not come that far
+abbrev pub Passed : ℕ → (Process → Process) → Table → State → State → ℕ → ℕ → ℕ → ℕ → ℕ → Type 0
+Passed n f table s u w e bit k i =
+    (k ≤ i → Ending n f table s (stored i noProcess u) w e (bit * 2) k (i + 1)) × (i < k → Ending n f table s u w e (bit * 2) k (i + 1))
+
+module _ {n : ℕ} {f : Process → Process} (same : (p : Process) → f p .pid ≡ p .pid) {table : Table} {s t : State} {w e bit k i : ℕ} (c : Ending n f table s t w e bit k i) (d : Process) (l : i < s .live) where
+  in-list : i < length (s .procs)
+  in-list = omega (arith, c .fits, c .long)
+
+  abbrev this : Process
+  this = getD (s .procs) i d
+
+  -- nobody ahead is changed
+  pub ahead : getD (t .procs) i d ≡ this
+  ahead =
+      let a = kept n f (s .procs) i in
+      let g : length (a ++ replicate (i - k) noProcess) ≡ i = rw (length-append a (replicate (i - k) noProcess), length-replicate (i - k) noProcess, ← c .count) (omega (arith, c .behind)) in
+      ap (λ (x : State). getD (x .procs) i d) (c .is)
+      ∙ rw (drop-cons (s .procs) i d in-list)
+      (getD-at (a ++ replicate (i - k) noProcess) this (drop (suc i) (s .procs)) d i g)
+
+  kept-end : kept n f (s .procs) (i + 1) ≡ kept n f (s .procs) i ++ consIf (stays n this) (f this) []
+  kept-end =
+      rw (add-one i, take-suc (s .procs) i d in-list, map-append f (take i (s .procs)) (this ∷ []), keep-end (stays n) (map f (take i (s .procs))) (f this))
+      (ap (λ (j : ℕ). kept n f (s .procs) i ++ consIf (not (eqb j n)) (f this) []) (same this))
+
+  -- one is done
+  next : {u : State} {v x m : ℕ} → m ≤ i + 1 → m ≡ length (kept n f (s .procs) (i + 1))
+      → u ≡ record { procs = kept n f (s .procs) (i + 1) ++ replicate (i + 1 - m) noProcess ++ drop (i + 1) (s .procs); live = s .live; table = table; next = s .next }
+      → Marked (λ p. stays n p && wakesBy f p) (s .procs) v (bit * 2) (i + 1) → Marked (has n) (s .procs) x (bit * 2) (i + 1) → Ending n f table s u v x (bit * 2) m (i + 1)
+  next b z h y o =
+      let g : i + 1 ≤ 16 = omega (arith, c .fits) in
+      let r : i + 1 ≤ length (s .procs) = omega (arith, c .fits, c .long) in
+      record {
+        inside = omega arith;
+        fits = c .fits;
+        long = c .long;
+        behind = b;
+        count = z;
+        is = h;
+        woken = y;
+        ended = o;
+        few-woken = mark-small y g r;
+        few-ended = mark-small o g r;
+        bound = mark-bit y g;
+      }
+
+  -- it ends
+  pub goes : getD (t .procs) i d .pid ≡ n → Passed n f table s t w (e + bit) bit k i
+  goes h =
+      let a : has n this ≡ true = eq-eqb (this .pid) n (ap (λ (p : Process). p .pid) (sym ahead) ∙ h) in
+      let g : kept n f (s .procs) (i + 1) ≡ kept n f (s .procs) i = rw a at kept-end ∙ append-nil (kept n f (s .procs) i) in (
+        λ _. next (omega (arith, c .behind)) (c .count ∙ ap length (sym g))
+            (ap (stored i noProcess) (c .is) ∙ rw (g, drop-cons (s .procs) i d in-list, gap-goes (kept n f (s .procs) i) noProcess this (drop (suc i) (s .procs)) (sym (c .count)) (c .behind), ← add-one i))
+            (mark (c .woken) {b = false} d in-list (omega arith) (rw a)) (mark (c .ended) {b = true} d in-list refl (sym a)),
+        λ b. absurd (omega (arith, c .behind)),
+      )
+
+  -- it stays, as f changes it; b says whether it wakes
+  pub remains : {q : Process} {v : ℕ} {b : Bool} → (getD (t .procs) i d .pid ≡ n → ⊥) → q ≡ f (getD (t .procs) i d) → v ≡ w + cond b bit 0 → b ≡ wakesBy f (getD (t .procs) i d) → Passed n f table s (stored k q t) v e bit (k + 1) i
+  remains {q} {v} {b} h r o y =
+      let a : has n this ≡ false = ne-eqb (this .pid) n (λ (x : this .pid ≡ n). h (ap (λ (p : Process). p .pid) ahead ∙ x)) in
+      let g : kept n f (s .procs) (i + 1) ≡ kept n f (s .procs) i ++ q ∷ [] = (rw a at kept-end) ∙ ap (λ (p : Process). kept n f (s .procs) i ++ p ∷ []) (ap f (sym ahead) ∙ sym r) in
+      let z : k + 1 ≡ length (kept n f (s .procs) (i + 1)) = rw (g, length-append (kept n f (s .procs) i) (q ∷ []), ← c .count) in
+      let m = mark (c .woken) d in-list o (y ∙ rw (ahead, a)) in
+      let x = mark (c .ended) {v = e} {b = false} d in-list (omega arith) (sym a) in (
+        λ j. next (omega (arith, c .behind)) z (ap (λ (u : State). stored i noProcess (stored k q u)) (c .is) ∙ rw (g, drop-cons (s .procs) i d in-list, gap-moves (kept n f (s .procs) i) noProcess this (drop (suc i) (s .procs)) (sym (c .count)) q j, ← add-one i)) m x,
+        λ j. let o : k ≡ i = omega (arith, c .behind) in next (omega (arith, c .behind)) z (ap (stored k q) (c .is) ∙ rw (g, drop-cons (s .procs) i d in-list, gap-none (kept n f (s .procs) i) noProcess this (drop (suc i) (s .procs)) (sym (c .count)) q o, ← add-one i)) m x,
+      )
+
+  pub remains-woken : {q : Process} → (getD (t .procs) i d .pid ≡ n → ⊥) → q ≡ f (getD (t .procs) i d) → sleeps (getD (t .procs) i d) ≡ true → sleeps q ≡ false → Passed n f table s (stored k q t) (w + bit) e bit (k + 1) i
+  remains-woken h r a z = remains {b = true} h r refl (rw (a, ← r, z))
+
+  pub remains-same : (getD (t .procs) i d .pid ≡ n → ⊥) → f (getD (t .procs) i d) ≡ getD (t .procs) i d → Passed n f table s (stored k (getD (t .procs) i d) t) w e bit (k + 1) i
+  remains-same h r = remains {b = false} h (sym r) (omega arith) (rw r (calm (sleeps (getD (t .procs) i d))))
+    where
+      calm : (a : Bool) → false ≡ (a && not a)
+      calm true = refl
+      calm false = refl
+
+-- all of them
+ended-all : {n : ℕ} {f : Process → Process} {table : Table} {a t : State} {w e bit k i : ℕ} → Lays a (view a) → Tidy table
+    → Ending n f table (tabled table a) t w e bit k i → a .live ≤ i
+    → Lays (record { procs = t .procs; live = k; table = t .table; next = t .next }) (record { procs = keep (λ p. not (has n p)) (map f (view a .procs)); rows = rowsOf table; next = a .next })
+    × ((w ≡ mask (λ p. not (has n p) && wakesBy f p) (view a .procs)) × (e ≡ mask (has n) (view a .procs)))
+unfolding laid view padded
+ended-all {n} {f} {table} {a} {t} {w} {e} {bit} {k} {i} l y c h =
+    let o : i ≡ a .live = omega (arith, c .inside) in
+    let us = kept n f (a .procs) (a .live) in
+    let z : k ≡ length us = c .count ∙ ap (λ (j : ℕ). length (kept n f (a .procs) j)) o in
+    let b : k ≤ a .live = omega (arith, c .behind) in
+    let m = lays-live l in
+    let u = l .live in
+    let x : (a .live - k) + (16 - length (take (a .live) (a .procs))) ≡ 16 - length us = omega arith in
+    let ps : t .procs ≡ us ++ replicate (16 - length us) noProcess =
+    ap (λ (x : State). x .procs) (c .is)
+    ∙ rw (o, lays-unused l, append-assoc us (replicate (a .live - k) noProcess) (replicate (16 - length (take (a .live) (a .procs))) noProcess), replicate-append-replicate (a .live - k) (16 - length (take (a .live) (a .procs))) noProcess, x)
+    in (
+      record {
+        is = λ j. record { procs = ps j; live = z j; table = (ap (λ (x : State). x .table) (c .is) ∙ y .is) j; next = ap (λ (x : State). x .next) (c .is) j };
+        live = le-trans (fewer-length (fewer-keep (λ p. not (has n p)) (map f (take (a .live) (a .procs))))) (rw (length-map (take (a .live) (a .procs)) f) (l .live));
+        used = y .used;
+      },
+      (c .woken .is ∙ ap (λ (j : ℕ). mask (λ p. not (has n p) && wakesBy f p) (take j (a .procs))) o, c .ended .is ∙ ap (λ (j : ℕ). mask (has n) (take j (a .procs))) o),
+    )
+
+-- what the loop leaves
+pub process-ended : {n : ℕ} {table : Table} {a t : State} {w e bit k i kind : ℕ} {x : Answer} → Lays a (view a) → table ≡ laidRows (withoutOwner n (view a .rows))
+    → Ending n (granted (rowsOf table)) table (tabled table a) t w e bit k i → a .live ≤ i → x ≡ masked kind w e
+    → Lays (record { procs = t .procs; live = k; table = t .table; next = t .next }) (ends n (view a))
+    × (x ≡ masked kind (mask (λ p. not (has n p) && wakesBy (granted (withoutOwner n (view a .rows))) p) (view a .procs)) (mask (has n) (view a .procs)))
+unfolding ends gone rowsLeft view withoutOwner
+process-ended {n} {table} {a} {t} {w} {e} {bit} {k} {i} {kind} {x} l o c h r =
+    let rs = withoutOwner n (view a .rows) in
+    let y : Tidy table = tidy rs o (le-trans (fewer-length (fewer-keep (λ q. not (owns n q)) (view a .rows))) (l .used)) in
+    let g = ended-all l y c h in
+    subst (λ (xs : List Row). Lays (record { procs = t .procs; live = k; table = t .table; next = t .next }) (gone n (rowsLeft xs (view a))) × (x ≡ masked kind (mask (λ p. not (has n p) && wakesBy (granted xs) p) (view a .procs)) (mask (has n) (view a .procs))))
+    (table-rows rs o) (g .0, r ∙ rw (g .1 .0, g .1 .1))
+
+-- ---- the masks where one ends
+
+stays-alive : (n o : ℕ) (ps : List Process) → eqb o n ≡ false → member o (pids ps) ≡ true → member o (pids (keep (stays n) ps)) ≡ true
+stays-alive n o [] d h = absurd (false≢true h)
+stays-alive n o (p ∷ ps) d h =
+    cases (has n p)
+    (λ e. let f : has o p ≡ false = ne-eqb (p .pid) o (λ (g : p .pid ≡ o). eqb-false o n d (sym g ∙ eqb-true (p .pid) n e)) in rw e (stays-alive n o ps d (rw f at h)))
+    (λ e. cases (has o p) (λ f. rw (e, f)) (λ f. rw (e, f) (stays-alive n o ps d (rw f at h))))
+
+gone-dead : (n : ℕ) (ps : List Process) → member n (pids (keep (stays n) ps)) ≡ false
+gone-dead n [] = refl
+gone-dead n (p ∷ ps) = cases (has n p) (λ e. rw e (gone-dead n ps)) (λ e. rw (e, e) (gone-dead n ps))
+
+stays-first : (n o : ℕ) (ps : List Process) → eqb o n ≡ false → firstOf o (keep (stays n) ps) ≡ firstOf o ps
+unfolding firstOf
+stays-first n o [] d = refl
+stays-first n o (p ∷ ps) d =
+    cases (has n p)
+    (λ e. let f : has o p ≡ false = ne-eqb (p .pid) o (λ (g : p .pid ≡ o). eqb-false o n d (sym g ∙ eqb-true (p .pid) n e)) in rw (e, f) (stays-first n o ps d))
+    (λ e. cases (has o p) (λ f. rw (e, f)) (λ f. rw (e, f) (stays-first n o ps d)))
+
+pub gone-masks : (n : ℕ) (f : Process → Process) → ((p : Process) → f p .pid ≡ p .pid) → (m after : Machine) → Ok m → after .procs ≡ keep (λ p. not (has n p)) (map f (m .procs))
+    → (mask (λ p. not (has n p) && wakesBy f p) (m .procs) ≡ wokenMask m after) × (mask (has n) (m .procs) ≡ endedMask m after)
+unfolding wokenMask endedMask lives processOf
+gone-masks n f same m after o e = (
+  mask-alike _ _ 1 (m .procs) (m .next) up (λ j l.
+      cases (has n (first j)) (λ h. rw (h, dead j h) (calm (sleeps (first j)) _)) (λ h. rw (h, live j l h, here j l h, and-true (sleeps (first j))))),
+  mask-alike _ _ 1 (m .procs) (m .next) up (λ j l. cases (has n (first j)) (λ h. rw (h, dead j h)) (λ h. rw (h, live j l h))),
+)
+  where
+    first : ℕ → Process
+    first j = firstOf j (m .procs)
+
+    up : ascend 1 (pids (m .procs)) (m .next) ≡ true
+    up = fit-ascend (pids (m .procs)) (m .next) (o .frame .fit)
+
+    calm : (a b : Bool) → false ≡ (a && false && b)
+    calm true b = refl
+    calm false b = refl
+
+    own : (j : ℕ) → member j (pids (m .procs)) ≡ true → member (first j .pid) (pids (m .procs)) ≡ true
+    own j l = ap (λ (k : ℕ). member k (pids (m .procs))) (first-pid j (m .procs) l) ∙ l
+
+    live : (j : ℕ) → member j (pids (m .procs)) ≡ true → has n (first j) ≡ false → member (first j .pid) (pids (after .procs)) ≡ true
+    live j l h = rw e (stays-alive n (first j .pid) (map f (m .procs)) h (rw (pids-map f same (m .procs)) (own j l)))
+
+    dead : (j : ℕ) → has n (first j) ≡ true → member (first j .pid) (pids (after .procs)) ≡ false
+    dead j h = ap (λ (k : ℕ). member k (pids (after .procs))) (eqb-true (first j .pid) n h) ∙ rw e (gone-dead n (map f (m .procs)))
+
+    here : (j : ℕ) → member j (pids (m .procs)) ≡ true → has n (first j) ≡ false → firstOf (first j .pid) (after .procs) ≡ f (first j)
+    here j l h =
+        rw e (stays-first n (first j .pid) (map f (m .procs)) h)
+        ∙ ap (λ (k : ℕ). firstOf k (map f (m .procs))) (first-pid j (m .procs) l) ∙ first-map f same j (m .procs) l
+
+-- what `end_process` gives, as an answer
+pub ended-settled : (s : State) {x : Stepped} (n : ℕ) (k : Kind) → Ok (view s) → Lays (x .state) (ends n (view s))
+    × (x .answer ≡ masked (kindOf k) (mask (λ p. not (has n p) && wakesBy (granted (withoutOwner n (view s .rows))) p) (view s .procs)) (mask (has n) (view s .procs)))
+    → x ≡ settled s (answered k 0 0 (ends n (view s)))
+unfolding ends gone rowsLeft
+ended-settled s {x} n k o h =
+    let rs = withoutOwner n (view s .rows) in
+    (λ j. record { answer = h .1 j; state = x .state }) ∙ settled-masked s k (h .0) (gone-masks n (granted rs) (granted-pid rs) (view s) (ends n (view s)) o refl)
