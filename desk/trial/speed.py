@@ -89,7 +89,7 @@ def bench():
     os.makedirs(f"{work}/r/crates/bench/src")
     shutil.copy(f"{desk}/trial/bench.txt", f"{work}/r/crates/bench/src/main.rt")
     with open(f"{root}/crates.txt") as f: lines = [l for l in f if not l.startswith("cases")]
-    with open(f"{work}/r/crates.txt", "w") as f: f.write("".join(lines) + "bench: model processes soundness rules locks io libc\n")
+    with open(f"{work}/r/crates.txt", "w") as f: f.write("".join(lines) + "bench: model processes soundness rules chains locks io libc\n")
     shutil.copy(stdin("in3", 3, 1), f"{work}/r/crates/bench/stdin")
     os.makedirs(f"{work}/t")
     p, got = subprocess.Popen(["rt", "try", "bench"], cwd=f"{work}/r", env=dict(os.environ, TMPDIR=f"{work}/t"), stdout=subprocess.DEVNULL, stderr=subprocess.DEVNULL), []

@@ -5,7 +5,7 @@ use locks::rows::append;
 use locks::rows::has_twin;
 use locks::rows::no_rows;
 use locks::rows::waits;
-use locks::search::leads_back;
+use chains::leads_back;
 
 pub(crate) fn say(line: &[u8]) {
     io::write_all(1, line);

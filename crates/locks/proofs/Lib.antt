@@ -3,9 +3,4 @@ pub mod Lists
 pub mod Fewer
 pub mod Loops
 pub mod Tables
-pub mod Drawn
-pub mod Opened
-pub mod Chains
-pub mod Rings
-pub mod Found
 pub mod Cases

@@ -11,7 +11,7 @@ use lib.Dec.{eqb, leb, ltb}
 use borrow.Author.Tests.{le-leb, lt-leb, le-ltb, leb-true, eq-eqb, ne-eqb, not-false}
 use Rattle.locks.specs.Lists.{padded, between, mask}
 use Rattle.locks.specs.Rows.{noRow, rowsOf, laidRows, standingOf, waits, twin, hasTwin, withoutTwin}
-use Rattle.locks.specs.Chains.{Link, Chain, leadsBack}
+use Rattle.chains.specs.Chains.{Link, Chain, leadsBack}
 use Rattle.locks.specs.declared.rows.Row.{Row}
 use Rattle.locks.specs.declared.rows.Table.{Table}
 use Rattle.locks.specs.declared.rows.Standing.{Standing}
@@ -19,7 +19,7 @@ use Rattle.locks.specs.declared.rows.Standing.the-variants.{Held, Waits, Free}
 use Rattle.locks.proofs.Tests.{off, and-split, or-off}
 use Rattle.locks.proofs.Fewer.{fewer-keep, fewer-length}
 use Rattle.locks.proofs.Loops.{padded-more}
-use Rattle.locks.proofs.Chains.{deadlock-exact}
+use Rattle.chains.proofs.Chains.{deadlock-exact}
 use Rattle.rules.specs.State.{Machine, view, laid, forLock, put, granted, rowsLeft, asleepFor}
 use Rattle.rules.specs.Outcome.{done, nowAsleep, Outcome, answered}
 use Rattle.rules.specs.Calls.{badSequence, asksShared, conditional, rowOf, appended, queued, lockRow, doLock, unlockRow, doUnlock}

@@ -2,7 +2,7 @@
 use crate::answers::*;
 use crate::state::*;
 use locks::rows::*;
-use locks::search::*;
+use chains::leads_back;
 use processes::*;
 use rules::state::*;
 ghost use mathlib.Core.Path.{_≡_};

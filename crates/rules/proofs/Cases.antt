@@ -5,7 +5,7 @@ use mathlib.Core.List.{map, map-append}
 use lib.Count.{trailingZeros}
 use Rattle.locks.specs.Lists.{padded, agree}
 use Rattle.locks.specs.Rows.{noRow, rowsOf, laidRows, sameSequence, conflict, waits, twin, hasTwin, waitsOf, waitingOf, withoutTwin, withoutOwner, withoutWaiting, zeroRow, soundRow, apart}
-use Rattle.locks.specs.Chains.{links, chained, leadsBack}
+use Rattle.chains.specs.Chains.{links, chained, leadsBack}
 use Rattle.rules.specs.State.{newProcess, noProcess, view, laid, fresh, lives, firstOf, processOf, inPlace, put, each, granted, rowsLeft}
 use Rattle.rules.specs.Signals.{gone, ends, roused, trapped, reacts, arrives, takes, taken}
 use Rattle.rules.specs.Clock.{slept, rings, alarms, ticked}

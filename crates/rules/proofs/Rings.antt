@@ -4,10 +4,10 @@ use mathlib.Core.List.{List, [], _∷_}
 use lib.Dec.{eqb}
 use Rattle.locks.specs.Lists.{isZero}
 use Rattle.locks.specs.Rows.{withoutTwin, withoutOwner}
-use Rattle.locks.specs.Chains.{RingFree}
+use Rattle.chains.specs.Chains.{RingFree}
 use Rattle.locks.proofs.Tests.{picked, and-off}
 use Rattle.locks.proofs.Fewer.{Fewer, fewer-refl, fewer-trans, fewer-keep}
-use Rattle.locks.proofs.Rings.{fewer-free, free-end}
+use Rattle.chains.proofs.Rings.{fewer-free, free-end}
 use Rattle.rules.specs.State.{Machine, abort, ignore, pids, reactionTo, withAlarm, processOf, put, each, rowsLeft}
 use Rattle.rules.specs.Outcome.{Outcome, refused, answered, when, either, own}
 use Rattle.rules.specs.Signals.{gone, ends, reacts, arrives, taken}

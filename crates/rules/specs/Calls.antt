@@ -6,7 +6,7 @@ use lib.ListN.{length, take}
 use lib.Dec.{eqb, leb, ltb}
 use Rattle.locks.specs.Lists.{padded, between, bit, isZero}
 use Rattle.locks.specs.Rows.{waits, hasTwin, withoutTwin}
-use Rattle.locks.specs.Chains.{leadsBack}
+use Rattle.chains.specs.Chains.{leadsBack}
 use Rattle.locks.specs.declared.rows.Row.{Row}
 use Rattle.rules.specs.State.{Machine, abort, ignore, forSignal, forLock, forTime, newProcess, lives, processOf, put, rowsLeft, privileged, reactionTo, withUser, withGroup, withPriority, withSignals, withReaction, withAlarm, asleepFor}
 use Rattle.rules.specs.Outcome.{Outcome, done, nowAsleep, callerEnded, badcall, notmodelled, priv, noproc, nomemory, held, locked, deadlock, lcktable, notlocked, refused, answered, when, either, own}

@@ -1,11 +1,11 @@
 -- `locks::search::place` meets its contract: the place is i past what is left. Assumes nothing.
-use Rattle.locks.proofs.search.place.Statement.{statement}
-use Rattle.locks.proofs.search.place.Tie as tie
+use Rattle.chains.proofs.search.place.Statement.{statement}
+use Rattle.chains.proofs.search.place.Tie as tie
 use borrow.Author.Needs.{needs}
 use Prim.Native.Nat.{_+_, _-_, _≤_}
 use mathlib.Core.Path.{_≡_, refl, sym, _∙_}
-use Rattle.locks.specs.Search.{placeFrom, placeOf}
-use Rattle.locks.proofs.Opened.{place-here, place-next, place-past}
+use Rattle.chains.specs.Search.{placeFrom, placeOf}
+use Rattle.chains.proofs.Opened.{place-here, place-next, place-past}
 
 abbrev Inv-loop : tie.InvT-loop
 Inv-loop owners p i₀ i = (i ≤ 33) × (placeOf owners p ≡ placeFrom owners p i (33 - i))

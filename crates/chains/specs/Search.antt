@@ -5,10 +5,10 @@ use mathlib.Core.Bool.{Bool, true, false, cond}
 use mathlib.Core.List.{List}
 use lib.Dec.{eqb}
 use lib.ListN.{length, getD}
 use Rattle.locks.specs.Rows.{noRow, conflict}
-use Rattle.locks.specs.Chains.{Link, Chain}
+use Rattle.chains.specs.Chains.{Link, Chain}
 use Rattle.locks.specs.declared.rows.Row.{Row}
-use Rattle.locks.specs.declared.search.Seen.{Seen}
+use Rattle.chains.specs.declared.search.Seen.{Seen}
 
 -- some owner has a link to c
 pub record InTheWay (rows : List Row) (c : ℕ) : Type 0 where

@@ -1,18 +1,18 @@
 // The search for a chain of waits that leads from a new row back to its caller. It goes by numbers that are drawn from the rows
 // once and that its calls lend each other.
-use crate::rows::Row;
-use crate::rows::Table;
-use crate::rows::conflicts;
-use crate::rows::least;
+use locks::rows::Row;
+use locks::rows::Table;
+use locks::rows::conflicts;
+use locks::rows::least;
 ghost use mathlib.Core.Path.{_≡_};
 ghost use mathlib.Core.Bool.{true, false};
 ghost use mathlib.Core.Logic.{_↔_};
 ghost use mathlib.Core.List.{[], _∷_, _++_};
 ghost use Prim.Native.Nat.{_<_};
 ghost use lib.ListN.{getD};
 ghost use Rattle.locks.specs.Rows.{rowsOf};
-ghost use Rattle.locks.specs.Chains.{Link, Chain};
-ghost use Rattle.locks.specs.Search.{InTheWay, Owners, Ways, RowLeads, Leads, placeOf, Searched};
+ghost use Rattle.chains.specs.Chains.{Link, Chain};
+ghost use Rattle.chains.specs.Search.{InTheWay, Owners, Ways, RowLeads, Leads, placeOf, Searched};
 
 // Whether the chain closes, and if not, which processes are opened, each at the place of its first row.
 struct Seen {

@@ -1,16 +1,16 @@
 -- `locks::search::leads_back` meets its contract. Assumes nothing.
 use borrow.Author.Needs.{needs}
-use Rattle.locks.proofs.search.leads_back.Statement.{statement}
-use Rattle.locks.proofs.search.leads_back.Tie as tie
+use Rattle.chains.proofs.search.leads_back.Statement.{statement}
+use Rattle.chains.proofs.search.leads_back.Tie as tie
 use native.Mathlib.Omega.{arith}
 use mathlib.Core.Path.{ap, sym, _∙_}
 use mathlib.Core.Bool.{false≢true}
 use borrow.Author.Tests.{not-true}
 use lib.ListN.{length-map}
 use Rattle.locks.specs.Rows.{rowsOf}
 use Rattle.locks.specs.declared.rows.Row.{Row}
-use Rattle.locks.proofs.Drawn.{in-use, asked-length, new-at}
-use Rattle.locks.proofs.Found.{found-exact, no-way-back}
+use Rattle.chains.proofs.Drawn.{in-use, asked-length, new-at}
+use Rattle.chains.proofs.Found.{found-exact, no-way-back}
 
 in-the-way-requires : tie.Need-in-the-way-requires
 in-the-way-requires c κs = search needs

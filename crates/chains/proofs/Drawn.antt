@@ -10,12 +10,12 @@ use lib.ListN.{length, getD, set, replicate, length-append, length-take, List·g
 use lib.Seq.{getD-take, getD-at, getD-set-same, getD-set-other}
 use borrow.Author.Count.{below-none, below-more}
 use borrow.Author.Tests.{ltb-true, ltb-false}
 use Rattle.locks.specs.Rows.{noRow, rowsOf, conflict}
-use Rattle.locks.specs.Chains.{Link}
-use Rattle.locks.specs.Search.{inWay, Owners, Ways, Leads}
+use Rattle.chains.specs.Chains.{Link}
+use Rattle.chains.specs.Search.{inWay, Owners, Ways, Leads}
 use Rattle.locks.specs.declared.rows.Row.{Row}
 use Rattle.locks.specs.declared.rows.Table.{Table}
 use Rattle.locks.proofs.Tests.{cases}
 
 -- ---- the rows of a table with a new one behind them
 

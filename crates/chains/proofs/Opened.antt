@@ -10,10 +10,10 @@ use lib.ListN.{length, getD, set}
 use lib.Seq.{getD-set-same, getD-set-other}
 use borrow.Author.Count.{below-none, below-more}
 use borrow.Author.Tests.{eq-eqb, ne-eqb, eqb-true, eqb-false}
-use Rattle.locks.specs.Chains.{Chain, one, more}
-use Rattle.locks.specs.Search.{RowLeads, Leads, placeFrom, placeOf, Open, Grown, Searched}
-use Rattle.locks.specs.declared.search.Seen.{Seen}
+use Rattle.chains.specs.Chains.{Chain, one, more}
+use Rattle.chains.specs.Search.{RowLeads, Leads, placeFrom, placeOf, Open, Grown, Searched}
+use Rattle.chains.specs.declared.search.Seen.{Seen}
 use Rattle.locks.proofs.Tests.{cases}
 
 -- ---- the place of an owner
 

@@ -1,6 +1,6 @@
 -- `locks::search::ways_of` meets its contract: this is drawn of the rows before w, and of row w against those before a. Assumes nothing.
-use Rattle.locks.proofs.search.ways_of.Statement.{statement}
-use Rattle.locks.proofs.search.ways_of.Tie as tie
+use Rattle.chains.proofs.search.ways_of.Statement.{statement}
+use Rattle.chains.proofs.search.ways_of.Tie as tie
 use borrow.Author.Needs.{needs}
 use Prim.Native.Nat.{_+_, _-_, _≤_, _<_}
 use native.Mathlib.Omega.{arith}
@@ -8,8 +8,8 @@ use mathlib.Core.Path.{_≡_, sym, _∙_}
 use mathlib.Core.List.{[], _∷_, _++_}
 use mathlib.Core.Logic.{⊎-elim}
 use lib.ListN.{getD, length-map}
 use Rattle.locks.specs.Rows.{noRow, rowsOf}
-use Rattle.locks.proofs.Drawn.{Used, in-use, asked-length, old-at, new-at, Filled, fill-start, conflict-as, fill-next, fill-row, filled}
+use Rattle.chains.proofs.Drawn.{Used, in-use, asked-length, old-at, new-at, Filled, fill-start, conflict-as, fill-next, fill-row, filled}
 
 abbrev Inv-loop2 : tie.InvT-loop2
 Inv-loop2 r t n ways₀ w x a₀ ways a = (a ≤ w) × Filled (rowsOf t ++ r ∷ []) w a ways

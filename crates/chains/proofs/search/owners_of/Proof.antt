@@ -1,15 +1,15 @@
 -- `locks::search::owners_of` meets its contract: the owners of the first i rows are drawn. Assumes nothing.
-use Rattle.locks.proofs.search.owners_of.Statement.{statement}
-use Rattle.locks.proofs.search.owners_of.Tie as tie
+use Rattle.chains.proofs.search.owners_of.Statement.{statement}
+use Rattle.chains.proofs.search.owners_of.Tie as tie
 use borrow.Author.Needs.{needs}
 use Prim.Native.Nat.{_-_, _≤_}
 use native.Mathlib.Omega.{arith}
 use mathlib.Core.Path.{_≡_, sym, ap}
 use mathlib.Core.List.{[], _∷_, _++_}
 use lib.ListN.{length-map}
 use Rattle.locks.specs.Rows.{rowsOf}
 use Rattle.locks.specs.declared.rows.Row.{Row}
-use Rattle.locks.proofs.Drawn.{Used, in-use, asked-length, old-at, new-at, Listed, list-start, list-next, listed}
+use Rattle.chains.proofs.Drawn.{Used, in-use, asked-length, old-at, new-at, Listed, list-start, list-next, listed}
 
 abbrev Inv-loop : tie.InvT-loop
 Inv-loop r t n owners₀ i₀ owners i = Used t n × ((i ≤ n) × Listed (rowsOf t ++ r ∷ []) i owners)

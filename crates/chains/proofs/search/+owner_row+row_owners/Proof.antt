@@ -2,16 +2,16 @@
 -- `owner_row`, which opens one before it calls `row_owners`, and one more for `row_owners`. Assumes nothing.
 use borrow.Fn.Kinds.{In}
 use borrow.Fn.PlainCycle.{Measures, is, falls, and}
-use Rattle.locks.proofs.search.owner_row.Reads as owner-row
-use Rattle.locks.proofs.search.owner_row.Kinds as owner-row-kinds
-use Rattle.locks.proofs.search.+owner_row+row_owners.Lts-owner_row as owner-row-lts
-use Rattle.locks.proofs.search.row_owners.Reads as row-owners
-use Rattle.locks.proofs.search.row_owners.Kinds as row-owners-kinds
-use Rattle.locks.proofs.search.+owner_row+row_owners.Lts-row_owners as row-owners-lts
-use Rattle.locks.proofs.search.closes.Reads as closes-reads
-use Rattle.locks.proofs.search.place.Reads as place-reads
-use Rattle.locks.proofs.search.+owner_row+row_owners.{statement}
-use Rattle.locks.proofs.search.+owner_row+row_owners.Tie.{close}
+use Rattle.chains.proofs.search.owner_row.Reads as owner-row
+use Rattle.chains.proofs.search.owner_row.Kinds as owner-row-kinds
+use Rattle.chains.proofs.search.+owner_row+row_owners.Lts-owner_row as owner-row-lts
+use Rattle.chains.proofs.search.row_owners.Reads as row-owners
+use Rattle.chains.proofs.search.row_owners.Kinds as row-owners-kinds
+use Rattle.chains.proofs.search.+owner_row+row_owners.Lts-row_owners as row-owners-lts
+use Rattle.chains.proofs.search.closes.Reads as closes-reads
+use Rattle.chains.proofs.search.place.Reads as place-reads
+use Rattle.chains.proofs.search.+owner_row+row_owners.{statement}
+use Rattle.chains.proofs.search.+owner_row+row_owners.Tie.{close}
 use borrow.Author.Needs.{needs}
 use Prim.Native.Nat.{ℕ, _+_, _*_, _-_, _<_, _≤_}
 use native.Mathlib.Omega.{arith}
@@ -20,9 +20,9 @@ use mathlib.Core.List.{List}
 use mathlib.Core.Bool.{Bool, true, true≢false, false≢true}
 use mathlib.Core.Logic.{⊎-elim}
 use lib.ListN.{length, getD, set}
-use Rattle.locks.specs.Chains.{one, more}
-use Rattle.locks.specs.Search.{inWay, RowLeads}
-use Rattle.locks.proofs.Opened.{shut, shut-set, place-fits, grown-refl, grown-shut, opened-in, opening, Toured, tour-start, tour-past, tour-on}
+use Rattle.chains.specs.Chains.{one, more}
+use Rattle.chains.specs.Search.{inWay, RowLeads}
+use Rattle.chains.proofs.Opened.{shut, shut-set, place-fits, grown-refl, grown-shut, opened-in, opening, Toured, tour-start, tour-past, tour-on}
 
 -- row v is p's and leads to q
 abbrev OwnLeads : List ℕ → List Bool → ℕ → ℕ → ℕ → Type 0

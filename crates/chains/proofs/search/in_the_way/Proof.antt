@@ -1,6 +1,6 @@
 -- `locks::search::in_the_way` meets its contract: no row waits behind one of c before place a, and none before w behind row a. Assumes nothing.
-use Rattle.locks.proofs.search.in_the_way.Statement.{statement}
-use Rattle.locks.proofs.search.in_the_way.Tie as tie
+use Rattle.chains.proofs.search.in_the_way.Statement.{statement}
+use Rattle.chains.proofs.search.in_the_way.Tie as tie
 use borrow.Author.Needs.{needs}
 use Prim.Native.Nat.{ℕ, _-_, _≤_, _<_}
 use native.Mathlib.Omega.{arith}
@@ -10,9 +10,9 @@ use mathlib.Core.List.{List}
 use mathlib.Core.Logic.{⊎-elim}
 use borrow.Author.Count.{below-none, below-more}
 use lib.ListN.{getD, length-map}
 use Rattle.locks.specs.Rows.{noRow, rowsOf, conflict}
 use Rattle.locks.specs.declared.rows.Row.{Row}
-use Rattle.locks.proofs.Drawn.{Used, in-use, row-at, conflict-as}
+use Rattle.chains.proofs.Drawn.{Used, in-use, row-at, conflict-as}
 
 -- row b is not one of c, or none of the n rows waits behind it
 abbrev Clear : List Row → ℕ → ℕ → ℕ → Type 0

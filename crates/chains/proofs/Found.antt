@@ -6,16 +6,16 @@ use mathlib.Core.Logic.{_↔_, ⊎-elim}
 use mathlib.Core.List.{List, [], _∷_, _++_}
 use lib.ListN.{length, replicate, getD}
 use borrow.Author.Tests.{eq-eqb}
 use Rattle.locks.specs.Rows.{noRow, conflict}
-use Rattle.locks.specs.Chains.{Link, Chain, one, more}
-use Rattle.locks.specs.Search.{InTheWay, Owners, Ways, placeOf, Searched}
+use Rattle.chains.specs.Chains.{Link, Chain, one, more}
+use Rattle.chains.specs.Search.{InTheWay, Owners, Ways, placeOf, Searched}
 use Rattle.locks.specs.declared.rows.Row.{Row}
-use Rattle.locks.specs.declared.search.Seen.{Seen}
+use Rattle.chains.specs.declared.search.Seen.{Seen}
 use Rattle.locks.proofs.Tests.{cases}
-use Rattle.locks.proofs.Chains.{chain-map}
-use Rattle.locks.proofs.Rings.{new-link}
-use Rattle.locks.proofs.Drawn.{no-flag, link-leads, leads-link}
-use Rattle.locks.proofs.Opened.{no-way}
+use Rattle.chains.proofs.Chains.{chain-map}
+use Rattle.chains.proofs.Rings.{new-link}
+use Rattle.chains.proofs.Drawn.{no-flag, link-leads, leads-link}
+use Rattle.chains.proofs.Opened.{no-way}
 
 -- the search from c, with nobody opened before
 pub found-exact : {rows : List Row} {owners : List ℕ} {ways : List Bool} {c p : ℕ} {s : Seen} → length rows ≤ 33 → Owners rows owners → Ways rows ways → p ≡ c

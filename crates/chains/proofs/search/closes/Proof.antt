@@ -1,6 +1,6 @@
 -- `locks::search::closes` meets its contract: no row of p before w, and of those from a on none of c with row w, makes the pair. Assumes nothing.
-use Rattle.locks.proofs.search.closes.Statement.{statement}
-use Rattle.locks.proofs.search.closes.Tie as tie
+use Rattle.chains.proofs.search.closes.Statement.{statement}
+use Rattle.chains.proofs.search.closes.Tie as tie
 use borrow.Author.Needs.{needs}
 use Prim.Native.Nat.{ℕ, _-_, _≤_, _<_}
 use native.Mathlib.Omega.{arith}
@@ -10,8 +10,8 @@ use mathlib.Core.Bool.{Bool, true, false, false≢true}
 use mathlib.Core.Logic.{⊎-elim}
 use borrow.Author.Count.{below-none, below-more}
 use lib.ListN.{getD}
-use Rattle.locks.specs.Search.{inWay, RowLeads}
+use Rattle.chains.specs.Search.{inWay, RowLeads}
 use Rattle.locks.proofs.Loops.{one-down}
 
 -- rows w and b make no pair with c
 abbrev Apart : List ℕ → List Bool → ℕ → ℕ → ℕ → Type 0
