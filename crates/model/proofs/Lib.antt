@@ -5,7 +5,7 @@ pub mod Masks
 pub mod Kept
 pub mod Marks
 pub mod Sweep
-pub mod Endings
 pub mod Comparing
 pub mod Locks
 pub mod Events
+pub mod Endings

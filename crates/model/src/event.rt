@@ -134,7 +134,7 @@ pub fn advance(s: State, e: Event) -> Stepped
         Course::Own(o) => keep(s, i, own_call(o, p, e)),
         Course::Lock => lock(s, i, p, e),
         Course::Unlock => unlock(s, i, p, e),
-        Course::Kill => kill(s, p, e),
+        Course::Kill => kill(s, i, p, e),
         Course::Exit => exit(s, i, p),
         Course::FShell => fshell(s, i, p, e),
         Course::Take => keep(s, i, take(p)),

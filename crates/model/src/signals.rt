@@ -13,7 +13,7 @@ ghost use Rattle.rules.specs.State.{view, has, put, granted, rowsLeft};
 ghost use Rattle.rules.specs.Signals.{ends, roused, trapped, arrives};
 ghost use Rattle.model.specs.Laid.{Lays, wakesBy, masked};
 
-// The process of that PID ends and its rows go; those behind it move up, and who waited for those rows alone wakes.
+// The process of that PID ends and its rows go; those behind it move up, and a lock sleeper none of whose rows waits wakes.
 pub(crate) fn end_process(mut s: State, pid: u16, kind: u8) -> Stepped
     requires { ⌜ Lays s (view s) ⌝ }
     ensures { λ r. ⌜ Lays (r .state) (ends pid (view s)) × (r .answer ≡ masked kind (mask (λ p. not (has pid p) && wakesBy (granted (withoutOwner pid (view s .rows))) p) (view s .procs)) (mask (has pid) (view s .procs))) ⌝ }
@@ -64,7 +64,7 @@ fn rouse(p: Process) -> Process
     woken_by(p, 2, p.rest.seconds)
 }
 
-fn trap(p: Process, signal: usize, a: u32) -> Process
+pub(crate) fn trap(p: Process, signal: usize, a: u32) -> Process
     requires { ⌜ (1 ≤ signal) × (signal ≤ 7) ⌝ }
     ensures { λ r. ⌜ r ≡ trapped signal a p ⌝ }
 {

@@ -180,7 +180,7 @@ enum-told-3 : tie.Need-enum-told-3 Inv-loop μ-loop
 enum-told-3 c = search needs
 
 kill-requires : tie.Need-kill-requires Inv-loop μ-loop
-kill-requires c κs = c .before .before .before .before .before .before .before .loop .inv .lays
+kill-requires c κs = caller (c .before .before .before .before) _ (c .before .before .before .before .if6 .left)
 
 enum-told-4 : tie.Need-enum-told-4 Inv-loop μ-loop
 enum-told-4 c = search needs
