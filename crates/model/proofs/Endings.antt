@@ -1,36 +1,45 @@
--- A process ends: a loop that packs the others where they stand and marks who wakes and who ends. Assumes nothing.
-use Prim.Native.Nat.{ℕ, zero, suc, _+_, _-_, _*_, _≤_, _<_}
-use native.Mathlib.Nat.{le-trans}
+-- A process ends: a loop that packs the others where they stand, and the masks. A signal comes to a process: what its sender is answered. Assumes nothing.
+use Prim.Native.Nat.{ℕ, zero, suc, _+_, _-_, _*_, _^_, _%_, _≤_, _<_}
+use native.Mathlib.Nat.{le-trans, suc-ne-zero, pow-succ', mod-eq-of-lt, one-mul}
 use native.Mathlib.Omega.{arith}
 use native.Mathlib.Numerals.{add-one}
 use mathlib.Core.Path.{_≡_, refl, sym, ap, subst, _∙_}
-use mathlib.Core.Bool.{Bool, true, false, cond, not, _&&_, and-true, false≢true}
+use mathlib.Core.Bool.{Bool, true, false, cond, not, _&&_, _||_, and-true, and-eq-true-iff, false≢true}
 use mathlib.Core.List.{List, [], _∷_, _++_, map, append-assoc, append-nil, map-append}
-use lib.Dec.{eqb}
+use lib.Dec.{eqb, leb}
+use lib.Pow.{pow-lt}
 use lib.ListN.{length, getD, take, drop, set, replicate, length-append, length-map, length-replicate, replicate-append-replicate}
 use lib.Seq.{take-suc, drop-cons, set-at, getD-at}
-use borrow.Author.Tests.{eq-eqb, ne-eqb, eqb-true, eqb-false}
-use Rattle.locks.specs.Lists.{mask, member, keep, consIf, padded}
-use Rattle.locks.proofs.Tests.{cases}
-use Rattle.locks.specs.Rows.{owns, rowsOf, laidRows, withoutOwner}
+use borrow.Author.Tests.{lt-ltb, eq-eqb, ne-eqb, eqb-true, eqb-false, not-true, not-false}
+use Rattle.locks.specs.Lists.{between, mask, all, isZero, member, sift, keep, consIf, padded}
+use Rattle.locks.proofs.Tests.{cases, picked, and-split, or-off}
+use Rattle.locks.proofs.Lists.{all-mono}
+use Rattle.model.proofs.Places.{place-member}
+use Rattle.locks.specs.Rows.{owns, rowsOf, laidRows, waitingOf, waitsOf, withoutOwner, withoutWaiting}
 use Rattle.locks.specs.declared.rows.Row.{Row}
 use Rattle.locks.specs.declared.rows.Table.{Table}
 use Rattle.locks.proofs.Fewer.{fewer-keep, fewer-length}
-use Rattle.rules.specs.State.{Machine, noProcess, view, laid, has, pids, sleeps, lives, firstOf, processOf, granted, rowsLeft}
-use Rattle.rules.specs.Outcome.{Kind, kindOf, answered}
-use Rattle.rules.specs.Sound.{ascend}
+use Rattle.rules.specs.State.{Machine, noProcess, view, laid, has, pids, sleeps, lives, firstOf, processOf, inPlace, put, privileged, reactionTo, granted, rowsLeft}
+use Rattle.rules.specs.Outcome.{Kind, kindOf, done, callerEnded, answered}
+use Rattle.rules.specs.Calls.{outlived, sendKill}
+use Rattle.rules.specs.declared.state.Event.{Event}
+use Rattle.soundness.proofs.Laws.{take-pids}
+use Rattle.model.proofs.Events.{lives-here, process-here}
+use Rattle.rules.specs.Sound.{ascend, lockFits, soundProcess, soundMachine}
 use Rattle.rules.specs.Step.{wokenMask, endedMask, settled}
-use Rattle.rules.specs.Signals.{gone, ends}
+use Rattle.rules.specs.Signals.{gone, ends, roused, trapped, reacts, arrives}
 use Rattle.rules.specs.declared.state.Answer.{Answer}
 use Rattle.rules.specs.declared.state.Process.{Process}
 use Rattle.rules.specs.declared.state.State.{State}
 use Rattle.rules.specs.declared.state.Stepped.{Stepped}
-use Rattle.rules.proofs.Frame.{Ok, fit-ascend, first-pid, pids-map}
+use Rattle.rules.proofs.Frame.{Ok, fit-ascend, first-pid, below-first, pids-put, all-put, live-pid, live-sane, pids-map}
 use Rattle.rules.proofs.Rows.{granted-pid}
-use Rattle.model.specs.Laid.{Lays, Tidy, stored, wakesBy, masked}
-use Rattle.model.proofs.Laying.{lays-live, lays-fits, lays-long, lays-unused, tidy, table-rows}
+use Rattle.rules.proofs.Sane.{sane}
+use Rattle.model.specs.Target.{Target}
+use Rattle.model.specs.Laid.{Lays, Tidy, Caller, placeOf, stored, answeredAs, wakesBy, masked}
+use Rattle.model.proofs.Laying.{lays-live, lays-fits, lays-long, lays-unused, lays-put, tidy, table-rows}
 use Rattle.model.proofs.Marks.{Marked, marked, mark, mark-bit, mark-small}
-use Rattle.model.proofs.Masks.{mask-alike, first-map, settled-masked}
+use Rattle.model.proofs.Masks.{mask-alike, mask-none, same-masks, put-masks, first-put, first-map, settled-quiet, settled-masked}
 use Rattle.model.proofs.Sweep.{tabled}
 
 -- ---- lists with a gap
@@ -306,3 +315,205 @@ unfolding ends gone rowsLeft
 ended-settled s {x} n k o h =
     let rs = withoutOwner n (view s .rows) in
     (λ j. record { answer = h .1 j; state = x .state }) ∙ settled-masked s k (h .0) (gone-masks n (granted rs) (granted-pid rs) (view s) (ends n (view s)) o refl)
+
+-- ---- a signal comes to the process of a place
+
+target-ok : {s : State} {j : ℕ} {q : Process} → Target s j q → Ok (view s)
+unfolding soundMachine
+target-ok t =
+    let k = simp and-eq-true-iff at (t .sound) in
+    record {
+      frame = record { fit = k .0 .0 .0; rows-sound = k .0 .0 .1; rows-apart = k .0 .1; few = rw length-map (t .lays .live); rows-few = t .lays .used };
+      procs = k .1;
+    }
+
+-- none is left out where none passes
+sift-none : (f : List Row → Row → Bool) (earlier rows : List Row) → length (sift f earlier rows) ≡ 0 → sift (λ us r. not (f us r)) earlier rows ≡ rows
+sift-none f earlier [] h = refl
+sift-none f earlier (r ∷ rows) h =
+    cases (f earlier r) (λ e. absurd (suc-ne-zero _ (rw e at h)))
+    (λ e. rw e (ap (λ (l : List Row). r ∷ l) (sift-none f (earlier ++ r ∷ []) rows (rw e at h))))
+
+-- it does not sleep for a lock that it has got
+abbrev settles : List Row → Process → Bool
+settles rows p = not (eqb (p .rest .sleep) 2 && isZero (length (waitingOf (p .pid) rows)))
+
+sound-settles : (rows : List Row) (p : Process) → soundProcess rows p ≡ true → settles rows p ≡ true
+unfolding lockFits
+sound-settles rows p h =
+    let k = sane h .locks in
+    cases (eqb (p .rest .sleep) 2) (λ e. let a : length (waitingOf (p .pid) rows) ≡ 1 = eqb-true _ _ (rw e at k) in rw (e, a)) (λ e. rw e)
+
+all-settle : (rows : List Row) (ps : List Process) → all (settles rows) ps ≡ true → map (granted rows) ps ≡ ps
+unfolding granted
+all-settle rows [] h = refl
+all-settle rows (p ∷ ps) h =
+    let s = and-split (settles rows p) (all (settles rows) ps) h in
+    rw (not-true (eqb (p .rest .sleep) 2 && isZero (length (waitingOf (p .pid) rows))) (s .0), all-settle rows ps (s .1))
+
+trapped-pid : (signal a : ℕ) (q : Process) → trapped signal a q .pid ≡ q .pid
+unfolding trapped roused
+trapped-pid signal a q = picked (λ (p : Process). p .pid ≡ q .pid) (sleeps q) (λ _. refl) (λ _. refl)
+
+trapped-awake : (signal a : ℕ) (q : Process) → trapped signal a q .rest .sleep ≡ 0
+unfolding trapped roused
+trapped-awake signal a q = picked (λ (p : Process). p .rest .sleep ≡ 0) (sleeps q) (λ _. refl) (λ e. eqb-true (q .rest .sleep) 0 (not-false _ e))
+
+module _ {s : State} {j : ℕ} {q : Process} (t : Target s j q) where
+  pub target-lives : lives (view s) (q .pid) ≡ true
+  unfolding lives
+  target-lives =
+      sym (place-member (q .pid) (pids (view s .procs)))
+      ∙ rw (length-map (view s .procs) (λ (p : Process). p .pid), ← t .place) (lt-ltb j (length (view s .procs)) (t .stands))
+
+  -- one that does not sleep for a lock has no row that waits
+  no-waiting : (q .rest .sleep ≡ 2 → ⊥) → length (waitingOf (q .pid) (view s .rows)) ≡ 0
+  unfolding lockFits
+  no-waiting h =
+      let k = rw (← t .is) at (live-sane (view s) (q .pid) (target-ok t) target-lives .locks) in
+      eqb-true _ 0 (rw (ne-eqb (q .rest .sleep) 2 h) at k)
+
+  -- and when it is trapped no row goes and nobody else wakes
+  trap-alone : (r : Process) → (q .rest .sleep ≡ 2 → ⊥) → r .rest .sleep ≡ 0 → rowsLeft (withoutWaiting (q .pid) (view s .rows)) (put r (view s)) ≡ put r (view s)
+  unfolding rowsLeft put withoutWaiting waitingOf
+  trap-alone r h z =
+      let rows = view s .rows in
+      let a : all (settles rows) (view s .procs) ≡ true = all-mono (soundProcess rows) (settles rows) (sound-settles rows) (view s .procs) (target-ok t .procs) in
+      let b : settles rows r ≡ true = rw z in
+      rw (sift-none (waitsOf (q .pid)) [] rows (no-waiting h), all-settle rows (inPlace r (view s .procs)) (all-put (settles rows) r (view s .procs) b a))
+
+  arrives-trap : (signal : ℕ) → (reactionTo signal q ≡ 1 → ⊥) → (reactionTo signal q ≡ 0 → ⊥) → (q .rest .sleep ≡ 2 → ⊥) → arrives signal (q .pid) (view s) ≡ put (trapped signal (reactionTo signal q) q) (view s)
+  unfolding arrives reacts
+  arrives-trap signal h k z =
+      rw (← t .is, ne-eqb (reactionTo signal q) 1 h, ne-eqb (reactionTo signal q) 0 k)
+      (trap-alone (trapped signal (reactionTo signal q) q) z (trapped-awake signal (reactionTo signal q) q))
+
+-- ---- the masks where one wakes
+
+first-here : (q : Process) (ps : List Process) → member (q .pid) (pids ps) ≡ true → firstOf (q .pid) (inPlace q ps) ≡ q
+unfolding firstOf inPlace
+first-here q [] h = absurd (false≢true h)
+first-here q (p ∷ ps) h = cases (has (q .pid) p) (λ e. rw (e, eq-eqb (q .pid) (q .pid) refl)) (λ e. rw (e, e) (first-here q ps (rw e at h)))
+
+mask-zero : (n : ℕ) (ps : List Process) → member n (pids ps) ≡ false → mask (has n) ps ≡ 0
+mask-zero n [] h = refl
+mask-zero n (p ∷ ps) h = let o = or-off (has n p) (member n (pids ps)) h in rw (o .0, mask-zero n ps (o .1))
+
+-- the bit of a place
+mask-one : (n low : ℕ) (ps : List Process) (next : ℕ) → ascend low (pids ps) next ≡ true → member n (pids ps) ≡ true → mask (has n) ps ≡ 2 ^ placeOf n (pids ps)
+unfolding ascend placeOf
+mask-one n low [] next up h = absurd (false≢true h)
+mask-one n low (p ∷ ps) next up h =
+    let u = and-split (leb low (p .pid)) (ascend (p .pid + 1) (pids ps) next) up in
+    cases (has n p)
+    (λ e.
+    let z : member n (pids ps) ≡ false = rw (eqb-true (p .pid) n e) at (below-first (p .pid) (p .pid + 1) (pids ps) next (omega arith) (u .1)) in
+    rw (e, mask-zero n ps z))
+    (λ e. rw (e, mask-one n (p .pid + 1) ps next (u .1) (rw e at h), pow-succ' 2 (placeOf n (pids ps))) (omega arith))
+
+wakes-one : (m after : Machine) → Ok m → (q : Process) → after .procs ≡ inPlace q (m .procs) → lives m (q .pid) ≡ true → sleeps (processOf m (q .pid)) ≡ true → sleeps q ≡ false
+    → (2 ^ placeOf (q .pid) (pids (m .procs)) ≡ wokenMask m after) × (0 ≡ endedMask m after)
+unfolding wokenMask endedMask lives processOf
+wakes-one m after o q e l a z = (
+  sym (mask-one (q .pid) 1 (m .procs) (m .next) up l)
+      ∙ mask-alike _ _ 1 (m .procs) (m .next) up (λ j h. cases (has (q .pid) (first j)) (λ k. rw (k, live j h, here j k, z, slept j h k)) (λ k. rw (k, live j h, there j h k) (calm (sleeps (first j))))),
+  sym (mask-none _ 1 (m .procs) (m .next) up (λ j h. rw (live j h))),
+)
+  where
+    first : ℕ → Process
+    first j = firstOf j (m .procs)
+
+    up : ascend 1 (pids (m .procs)) (m .next) ≡ true
+    up = fit-ascend (pids (m .procs)) (m .next) (o .frame .fit)
+
+    calm : (b : Bool) → false ≡ (b && true && not b)
+    calm true = refl
+    calm false = refl
+
+    live : (j : ℕ) → member j (pids (m .procs)) ≡ true → member (first j .pid) (pids (after .procs)) ≡ true
+    live j h = ap (λ (k : ℕ). member k (pids (after .procs))) (first-pid j (m .procs) h) ∙ rw (e, pids-put q (m .procs)) h
+
+    here : (j : ℕ) → has (q .pid) (first j) ≡ true → firstOf (first j .pid) (after .procs) ≡ q
+    here j k = ap (λ (n : ℕ). firstOf n (after .procs)) (eqb-true (first j .pid) (q .pid) k) ∙ rw e (first-here q (m .procs) l)
+
+    slept : (j : ℕ) → member j (pids (m .procs)) ≡ true → has (q .pid) (first j) ≡ true → sleeps (first j) ≡ true
+    slept j h k = ap (λ (n : ℕ). sleeps (first n)) (sym (first-pid j (m .procs) h) ∙ eqb-true (first j .pid) (q .pid) k) ∙ a
+
+    there : (j : ℕ) → member j (pids (m .procs)) ≡ true → has (q .pid) (first j) ≡ false → firstOf (first j .pid) (after .procs) ≡ first j
+    there j h k =
+        rw e (first-put q (first j .pid) (m .procs) (ne-eqb (q .pid) (first j .pid) (λ (f : q .pid ≡ first j .pid). eqb-false (first j .pid) (q .pid) k (sym f))))
+        ∙ ap first (first-pid j (m .procs) h)
+
+-- ---- what the sender is answered
+
+-- it ended itself, or it lives on
+ended-lives : (n : ℕ) (m : Machine) (caller : ℕ) → lives m caller ≡ true → lives (ends n m) caller ≡ not (eqb n caller)
+unfolding lives ends gone rowsLeft
+ended-lives n m caller l =
+    let rs = withoutOwner n (m .rows) in
+    let ps = map (granted rs) (m .procs) in
+    cases (eqb n caller)
+    (λ e. rw (e, ← eqb-true n caller e) (gone-dead n ps))
+    (λ e.
+    let d : eqb caller n ≡ false = ne-eqb caller n (λ (f : caller ≡ n). eqb-false n caller e (sym f)) in
+    rw e (stays-alive n caller ps d (rw (pids-map (granted rs) (granted-pid rs) (m .procs)) l)))
+
+module _ {s : State} {j : ℕ} {q : Process} (t : Target s j q) (signal caller : ℕ) (l : lives (view s) caller ≡ true) where
+  pub sent-ignored : reactionTo signal q ≡ 1 → answeredAs 0 0 s ≡ settled s (outlived caller (arrives signal (q .pid) (view s)))
+  unfolding arrives reacts outlived settled
+  sent-ignored h = rw (← t .is, eq-eqb (reactionTo signal q) 1 h, l) (settled-quiet s done 0 0 (t .lays) (same-masks (view s) (view s) (target-ok t) refl))
+
+  pub sent-abort : {x : Stepped} {kind : ℕ} → reactionTo signal q ≡ 0 → kind ≡ cond (eqb (q .pid) caller) 2 0 → Lays (x .state) (ends (q .pid) (view s))
+      × (x .answer ≡ masked kind (mask (λ p. not (has (q .pid) p) && wakesBy (granted (withoutOwner (q .pid) (view s .rows))) p) (view s .procs)) (mask (has (q .pid)) (view s .procs)))
+      → x ≡ settled s (outlived caller (arrives signal (q .pid) (view s)))
+  unfolding arrives reacts outlived settled
+  sent-abort {x} {kind} h k g =
+      rw (← t .is, h)
+      (cases (eqb (q .pid) caller)
+      (λ e. rw (ended-lives (q .pid) (view s) caller l, e) (ended-settled s (q .pid) callerEnded (target-ok t) (rw (k, e) at g)))
+      (λ e. rw (ended-lives (q .pid) (view s) caller l, e) (ended-settled s (q .pid) done (target-ok t) (rw (k, e) at g))))
+
+  pub sent-trap : {r : Process} {w : ℕ} → (reactionTo signal q ≡ 1 → ⊥) → (reactionTo signal q ≡ 0 → ⊥) → (q .rest .sleep ≡ 2 → ⊥) → r ≡ trapped signal (reactionTo signal q) q
+      → w ≡ cond (sleeps q) (2 ^ j) 0 → record { answer = masked 0 w 0; state = stored j r s } ≡ settled s (outlived caller (arrives signal (q .pid) (view s)))
+  unfolding outlived settled lives put
+  sent-trap {r} {w} h k z e o =
+      let n : r .pid ≡ q .pid = ap (λ (p : Process). p .pid) e ∙ trapped-pid signal (reactionTo signal q) q in
+      let y : r .rest .sleep ≡ 0 = ap (λ (p : Process). p .rest .sleep) e ∙ trapped-awake signal (reactionTo signal q) q in
+      let a = lays-put r (t .lays) (rw n (t .place)) (t .stands) in
+      let b : processOf (view s) (r .pid) ≡ q = rw n (sym (t .is)) in
+      rw (arrives-trap t signal h k z, ← e, pids-put r (view s .procs), l)
+      (settled-masked s done a
+      (cases (sleeps q)
+      (λ f. let g = wakes-one (view s) (put r (view s)) (target-ok t) r refl (rw n (target-lives t)) (rw b f) (rw y) in (rw (o, f, t .place, ← n) (g .0), g .1))
+      (λ f. let g = put-masks (view s) (put r (view s)) (target-ok t) r refl (rw b f) in (rw (o, f) (sym (g .0)), sym (g .1)))))
+
+-- a bit of a mask
+pub bit-in-mask : (k : ℕ) → k < 16 → (1 * 2 ^ k) % 2 ^ 16 ≡ 2 ^ k
+bit-in-mask k l = rw (one-mul (2 ^ k)) (mod-eq-of-lt (pow-lt l))
+
+-- ---- kill
+
+pub caller-target : {s : State} {i : ℕ} {p : Process} → Caller s i p → Target s i p
+caller-target c = record { lays = c .lays; sound = c .sound; place = c .place; stands = c .stands; is = c .is }
+
+module _ {s : State} (l : Lays s (view s)) (n : ℕ) {j : ℕ} (e : j ≡ placeOf n (take (s .live) (pids (s .procs)))) (d : Process) (h : j < s .live) where
+  pub pid-here : getD (s .procs) j d .pid ≡ n
+  pid-here = ap (λ (p : Process). p .pid) (process-here l refl n e d h) ∙ live-pid (view s) n (lives-here l refl n e h)
+
+  pub target-here : soundMachine (view s) ≡ true → Target s j (getD (s .procs) j d)
+  unfolding view
+  target-here k =
+      record {
+        lays = l;
+        sound = k;
+        place = rw pid-here (e ∙ ap (placeOf n) (take-pids (s .live) (s .procs)));
+        stands = rw (← lays-live l) h;
+        is = process-here l refl n e d h ∙ ap (processOf (view s)) (sym pid-here);
+      }
+
+-- past the checks
+pub kill-arrives : (s : State) (p : Process) (e : Event) → (not (between 1 7 (e .d2)) || not (between 2 65535 (e .d3))) ≡ false → lives (view s) (e .d3) ≡ true
+    → (privileged p || eqb (p .user .effective) (processOf (view s) (e .d3) .user .effective)) ≡ true
+    → (n : ℕ) → n ≡ e .d3 → settled s (outlived (p .pid) (arrives (e .d2) n (view s))) ≡ settled s (sendKill p e (view s))
+unfolding sendKill settled
+kill-arrives s p e h a b n k = rw (h, a, b, k)

@@ -5,8 +5,8 @@ pub mod Masks
 pub mod Kept
 pub mod Marks
 pub mod Sweep
-pub mod Endings
 pub mod Comparing
 pub mod Locks
 pub mod Events
 pub mod Ticks
+pub mod Endings

@@ -43,7 +43,7 @@ nobody : (ps : List Process) → mask (λ _. false) ps ≡ 0
 nobody [] = refl
 nobody (p ∷ ps) = rw (nobody ps)
 
-mask-none : (f : Process → Bool) (low : ℕ) (ps : List Process) (next : ℕ) → ascend low (pids ps) next ≡ true → ((n : ℕ) → member n (pids ps) ≡ true → f (firstOf n ps) ≡ false) → mask f ps ≡ 0
+pub mask-none : (f : Process → Bool) (low : ℕ) (ps : List Process) (next : ℕ) → ascend low (pids ps) next ≡ true → ((n : ℕ) → member n (pids ps) ≡ true → f (firstOf n ps) ≡ false) → mask f ps ≡ 0
 mask-none f low ps next up h = mask-alike f (λ _. false) low ps next up h ∙ nobody ps
 
 calm : (a b c : Bool) → (a ≡ true → c ≡ true) → (a && b && not c) ≡ false

@@ -7,11 +7,14 @@ use rules::state::*;
 use soundness::pids_of;
 ghost use mathlib.Core.Path.{_≡_};
 ghost use Prim.Native.Nat.{_≤_, _<_};
-ghost use Rattle.rules.specs.State.{view};
-ghost use Rattle.rules.specs.Calls.{doExit, outlived, sendKill};
+ghost use Rattle.rules.specs.State.{view, lives};
+ghost use Rattle.rules.specs.Calls.{doExit, outlived, sendKill, doFShell};
 ghost use Rattle.rules.specs.Step.{settled};
 ghost use Rattle.processes.specs.Told.{toldNo};
 ghost use Rattle.model.specs.Laid.{Lays, Caller, BornAs};
+ghost use mathlib.Core.Bool.{true};
+ghost use Rattle.rules.specs.Signals.{arrives};
+ghost use Rattle.model.specs.Target.{Target};
 
 const BADCALL: u8 = 5;
 
@@ -87,8 +90,38 @@ fn outlive(s: State, t: State, pid: u16) -> Stepped
     settle(s, t, 2)
 }
 
-pub(crate) fn kill(s: State, p: Process, e: Event) -> Stepped
-    requires { ⌜ Lays s (view s) ⌝ }
+// The signal comes to q, the process at place j.
+fn send(mut s: State, j: usize, q: Process, signal: usize, caller: u16) -> Stepped
+    requires { ⌜ Target s j q × ((lives (view s) caller ≡ true) × ((1 ≤ signal) × (signal ≤ 7))) ⌝ }
+    ensures { λ x. ⌜ x ≡ settled s (outlived caller (arrives signal (q .pid) (view s))) ⌝ }
+{
+    let g = q.signals;
+    let a = g.reactions[signal - 1];
+    if a == 1 {
+        return Stepped {
+            answer: plain(0, 0),
+            state: s,
+        };
+    }
+    if a == 0 {
+        return end_process(s, q.pid, if q.pid == caller { 2 } else { 0 });
+    }
+    if q.rest.sleep == 2 {
+        return outlive(s, arrive(s, signal, q.pid), caller);
+    }
+    s.procs[j] = trap(q, signal, a);
+    let mut woken: u16 = 0;
+    if q.rest.sleep != 0 {
+        woken = 1u16 << j;
+    }
+    Stepped {
+        answer: with_masks(0, woken, 0),
+        state: s,
+    }
+}
+
+pub(crate) fn kill(s: State, i: usize, p: Process, e: Event) -> Stepped
+    requires { ⌜ Caller s i p ⌝ }
     ensures { λ x. ⌜ x ≡ settled s (sendKill p e (view s)) ⌝ }
 {
     if e.d2 < 1 || 7 < e.d2 || e.d3 < 2 || 65535 < e.d3 {
@@ -98,18 +131,22 @@ pub(crate) fn kill(s: State, p: Process, e: Event) -> Stepped
         };
     }
     let pid = e.d3 as u16;
-    let j = place(pids_of(s), s.live, pid);
+    let mut j: usize = 0;
+    while j < s.live && s.procs[j].pid != pid {
+        j += 1;
+    }
     if j == s.live {
         return Stepped {
             answer: refusal(NOPROC),
             state: s,
         };
     }
-    if !is_privileged(p) && p.user.effective != s.procs[j].user.effective {
+    let q = s.procs[j];
+    if !is_privileged(p) && p.user.effective != q.user.effective {
         return Stepped {
             answer: refusal(PRIV),
             state: s,
         };
     }
-    outlive(s, arrive(s, e.d2 as usize, pid), p.pid)
+    send(s, j, q, e.d2 as usize, p.pid)
 }

@@ -133,7 +133,7 @@ pub fn advance(mut s: State, e: Event) -> Stepped
             return unlock(s, i, p, e);
         }
         Course::Kill => {
-            return kill(s, p, e);
+            return kill(s, i, p, e);
         }
         Course::Exit => {
             return exit(s, i, p);

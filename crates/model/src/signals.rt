@@ -7,13 +7,13 @@ use rules::state::*;
 ghost use mathlib.Core.Path.{_≡_};
 ghost use mathlib.Core.Bool.{not, _&&_};
 ghost use Prim.Native.Nat.{_≤_};
-ghost use Rattle.locks.specs.Rows.{withoutOwner, withoutWaiting};
+ghost use Rattle.locks.specs.Rows.{rowsOf, withoutOwner, withoutWaiting};
 ghost use Rattle.locks.specs.Lists.{mask};
 ghost use Rattle.rules.specs.State.{view, has, put, granted, rowsLeft};
 ghost use Rattle.rules.specs.Signals.{ends, roused, trapped, arrives};
-ghost use Rattle.model.specs.Laid.{Lays, wakesBy, masked};
+ghost use Rattle.model.specs.Laid.{Lays, Tidy, wakesBy, masked};
 
-// The process of that PID ends and its rows go; those behind it move up, and who waited for those rows alone wakes.
+// The process of that PID ends and its rows go; those behind it move up, and a lock sleeper none of whose rows waits wakes.
 pub(crate) fn end_process(mut s: State, pid: u16, kind: u8) -> Stepped
     requires { ⌜ Lays s (view s) ⌝ }
     ensures { λ r. ⌜ Lays (r .state) (ends pid (view s)) × (r .answer ≡ masked kind (mask (λ p. not (has pid p) && wakesBy (granted (withoutOwner pid (view s .rows))) p) (view s .procs)) (mask (has pid) (view s .procs))) ⌝ }
@@ -64,7 +64,7 @@ fn rouse(p: Process) -> Process
     woken_by(p, 2, p.rest.seconds)
 }
 
-fn trap(p: Process, signal: usize, a: u32) -> Process
+pub(crate) fn trap(p: Process, signal: usize, a: u32) -> Process
     requires { ⌜ (1 ≤ signal) × (signal ≤ 7) ⌝ }
     ensures { λ r. ⌜ r ≡ trapped signal a p ⌝ }
 {
@@ -78,14 +78,33 @@ fn trap(p: Process, signal: usize, a: u32) -> Process
     rouse(q)
 }
 
+// As `rows_left`, where nobody asks who wakes: that one is made one with unlock, which every paper has.
+fn wake_all(s: State, t: Table) -> State
+    requires { ⌜ Lays s (view s) × Tidy t ⌝ }
+    ensures { λ r. ⌜ Lays r (rowsLeft (rowsOf t) (view s)) ⌝ }
+{
+    let mut u = s;
+    u.table = t;
+    let mut i: usize = 0;
+    while i < s.live {
+        if s.procs[i].rest.sleep == 2 {
+            let p = s.procs[i];
+            if !is_waiting(t, p.pid) {
+                u.procs[i] = woken_by(p, 1, 0);
+            }
+        }
+        i += 1;
+    }
+    u
+}
+
 // A lock sleeper loses its row.
 fn trap_at(s: State, signal: usize, a: u32, pid: u16, p: Process) -> State
     requires { ⌜ Lays s (view s) × ((1 ≤ signal) × (signal ≤ 7)) ⌝ }
     ensures { λ r. ⌜ Lays r (rowsLeft (withoutWaiting pid (view s .rows)) (put (trapped signal a p) (view s))) ⌝ }
 {
     let t = replace(s, trap(p, signal, a));
-    let r = rows_left(t, without_waiting(s.table, pid));
-    r.state
+    wake_all(t, without_waiting(s.table, pid))
 }
 
 // The signal arrives at the process of that PID.

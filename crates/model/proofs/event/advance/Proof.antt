@@ -174,7 +174,8 @@ enum-told-6 : tie.Need-enum-told-6 Inv-loop μ-loop
 enum-told-6 c = search needs
 
 kill-requires : tie.Need-kill-requires Inv-loop μ-loop
-kill-requires c κs = c .before .before .before .before .before .loop .inv .0 .lays
+unfolding acts
+kill-requires c κs = acting (c .before .before .before .before) _ (c .before .before .course-of .ensures) (c .enum-told6 .given .1) refl
 
 returns-3 : tie.Need-returns-3 Inv-loop μ-loop
 unfolding follows

@@ -5,7 +5,7 @@ use Rattle.model.proofs.signals.trap_at.Tie as tie
 use Rattle.locks.proofs.rows.without_waiting.Reads as without-waiting-reads
 use Rattle.model.proofs.signals.trap.Reads as trap-reads
 use Rattle.model.proofs.state.replace.Reads as replace-reads
-use Rattle.model.proofs.state.rows_left.Reads as rows-left-reads
+use Rattle.model.proofs.signals.wake_all.Reads as wake-all-reads
 use Rattle.locks.specs.Rows.{withoutWaiting}
 use Rattle.rules.specs.State.{view, put, rowsLeft}
 use Rattle.rules.proofs.Arrivals.{fewer-without}
@@ -20,16 +20,15 @@ replace-requires c κs = search needs
 without-waiting-requires : tie.Need-without-waiting-requires
 without-waiting-requires c κs = search needs
 
-rows-left-requires : tie.Need-rows-left-requires
-rows-left-requires c κs = (lays-own (c .before .replace .ensures), fewer-tidy _ (c .before .before .before .pre .0) (c .without-waiting .ensures) (fewer-without _ _) .1)
+wake-all-requires : tie.Need-wake-all-requires
+wake-all-requires c κs = (lays-own (c .before .replace .ensures), fewer-tidy _ (c .before .before .before .pre .0) (c .without-waiting .ensures) (fewer-without _ _) .1)
 
 returns : tie.Need-returns
 unfolding view
-returns c = let o = c .before in
-    rw (← o .before .before .before .trap .ensures)
-    (then (o .before .before .replace .ensures) (rowsLeft (withoutWaiting (o .before .before .before .before .args .pid) _)) (left-rows _ _ (o .before .without-waiting .ensures) (o .rows-left .ensures .0)))
+returns c = rw (← c .before .before .before .trap .ensures)
+    (then (c .before .before .replace .ensures) (rowsLeft (withoutWaiting (c .before .before .before .before .args .pid) _)) (left-rows _ _ (c .before .without-waiting .ensures) (c .wake-all .ensures)))
 
 pub trap-at-spec : {M : Type 1} → statement M
 trap-at-spec =
     tie.close
-    (tie.spec trap-requires replace-requires without-waiting-requires rows-left-requires returns)
+    (tie.spec trap-requires replace-requires without-waiting-requires wake-all-requires returns)
