@@ -1,11 +1,11 @@
 // What the cases write.
+use chains::leads_back;
 use locks::rows::Row;
 use locks::rows::Table;
 use locks::rows::append;
 use locks::rows::has_twin;
 use locks::rows::no_rows;
 use locks::rows::waits;
-use chains::leads_back;
 
 pub(crate) fn say(line: &[u8]) {
     io::write_all(1, line);

@@ -4,7 +4,7 @@ use native.Mathlib.Nat.{le-trans, suc-ne-zero, pow-succ', mod-eq-of-lt, one-mul}
 use native.Mathlib.Omega.{arith}
 use native.Mathlib.Numerals.{add-one}
 use mathlib.Core.Path.{_≡_, refl, sym, ap, subst, _∙_}
-use mathlib.Core.Bool.{Bool, true, false, cond, not, _&&_, _||_, and-true, and-eq-true-iff, false≢true}
+use mathlib.Core.Bool.{Bool, true, false, cond, not, _&&_, _||_, and-true, false≢true}
 use mathlib.Core.List.{List, [], _∷_, _++_, map, append-assoc, append-nil, map-append}
 use lib.Dec.{eqb, leb}
 use lib.Pow.{pow-lt}
@@ -14,6 +14,7 @@ use borrow.Author.Tests.{lt-ltb, eq-eqb, ne-eqb, eqb-true, eqb-false, not-true, 
 use Rattle.locks.specs.Lists.{between, mask, all, isZero, member, sift, keep, consIf, padded}
 use Rattle.locks.proofs.Tests.{cases, picked, and-split, or-off}
 use Rattle.locks.proofs.Lists.{all-mono}
+use Rattle.model.proofs.Kept.{machine-ok}
 use Rattle.model.proofs.Places.{place-member}
 use Rattle.locks.specs.Rows.{owns, rowsOf, laidRows, waitingOf, waitsOf, withoutOwner, withoutWaiting}
 use Rattle.locks.specs.declared.rows.Row.{Row}
@@ -319,13 +320,7 @@ ended-settled s {x} n k o h =
 -- ---- a signal comes to the process of a place
 
 target-ok : {s : State} {j : ℕ} {q : Process} → Target s j q → Ok (view s)
-unfolding soundMachine
-target-ok t =
-    let k = simp and-eq-true-iff at (t .sound) in
-    record {
-      frame = record { fit = k .0 .0 .0; rows-sound = k .0 .0 .1; rows-apart = k .0 .1; few = rw length-map (t .lays .live); rows-few = t .lays .used };
-      procs = k .1;
-    }
+target-ok t = machine-ok (t .lays) (t .sound)
 
 -- none is left out where none passes
 sift-none : (f : List Row → Row → Bool) (earlier rows : List Row) → length (sift f earlier rows) ≡ 0 → sift (λ us r. not (f us r)) earlier rows ≡ rows

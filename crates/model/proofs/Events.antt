@@ -13,9 +13,9 @@ use Rattle.locks.proofs.Tests.{cases, or-left, or-right}
 use Rattle.locks.proofs.Loops.{padded-more}
 use Rattle.rules.specs.State.{noProcess, view, laid, pids, lives, processOf, sleeps, privileged}
 use Rattle.rules.specs.Outcome.{done, answered, own}
-use Rattle.rules.specs.Signals.{taken, arrives}
+use Rattle.rules.specs.Signals.{taken}
 use Rattle.rules.specs.Clock.{ticked}
-use Rattle.rules.specs.Calls.{indirect, classOf, ofClass, called, child, born, doFShell, outlived, sendKill}
+use Rattle.rules.specs.Calls.{indirect, classOf, ofClass, called, child, born, doFShell, sendKill}
 use Rattle.rules.specs.Sound.{soundMachine, sound}
 use Rattle.rules.specs.Step.{reported, ofCaller, outcome, settled, stepOf}
 use Rattle.rules.specs.declared.state.Process.{Process}
@@ -32,7 +32,7 @@ use Rattle.model.specs.Laid.{Lays, Caller, placeOf, refusedBy, bornWith,
 use Rattle.model.specs.declared.event.Course.{Course}
 use Rattle.model.specs.Course.{follows, OfEvent}
 use Rattle.model.proofs.Places.{place-member, first-found}
-use Rattle.model.proofs.Laying.{lays-live, lays-fits, lays-long, lays-table, lays-view}
+use Rattle.model.proofs.Laying.{lays-live, lays-fits, lays-long, lays-table}
 use Rattle.model.proofs.Masks.{born-masks, settled-quiet}
 use Rattle.model.proofs.Kept.{caller-ok, caller-back}
 
@@ -69,7 +69,7 @@ module _ {s : State} (l : Lays s (view s)) {ns : List ℕ} (q : ns ≡ pids (s .
   live-count : length (pids (view s .procs)) ≡ s .live
   live-count = length-map (view s .procs) _ ∙ sym (lays-live l)
 
-  pub place-fits : i ≤ s .live
+  place-fits : i ≤ s .live
   place-fits = let a = place-le n (pids (view s .procs)) in let b = live-count in let d = placed in omega arith
 
   pub place-lives : ltb i (s .live) ≡ lives (view s) n
@@ -288,8 +288,3 @@ module _ (s : State) (p : Process) (e : Event) where
           → refusedBy 7 s ≡ settled s (sendKill p e (view s))
       unfolding sendKill settled
       kill-foreign {x} {q} u v g k = rw (h, a, ← u, not-true x g, ← v, not-true (eqb (p .user .effective) (q .user .effective)) k)
-
-      pub kill-sent : {t : State} → (privileged p || eqb (p .user .effective) (processOf (view s) (e .d3) .user .effective)) ≡ true → Lays t (arrives (e .d2) (e .d3) (view s))
-          → settled s (outlived (p .pid) (view t)) ≡ settled s (sendKill p e (view s))
-      unfolding sendKill settled
-      kill-sent b l = rw (h, a, b, lays-view l)

@@ -19,7 +19,7 @@ use Rattle.rules.specs.declared.calls.OwnCall.the-variants.{GetUser, SetUser, G
 use Rattle.rules.proofs.Walk.{Leaves}
 use Rattle.rules.proofs.Frame.{Ok}
 use Rattle.processes.specs.Told.{told}
-use Rattle.model.specs.Laid.{Caller, kept}
+use Rattle.model.specs.Laid.{Lays, Caller, kept}
 use Rattle.model.proofs.Places.{first-found}
 use Rattle.model.proofs.Laying.{lays-live, lays-fits, lays-long, lays-put}
 use Rattle.model.proofs.Masks.{put-masks, settled-quiet}
@@ -50,14 +50,17 @@ reported-pids p = refl
 
 -- ---- in its place
 
-pub caller-ok : {s : State} {i : ℕ} {p : Process} → Caller s i p → Ok (view s)
+pub machine-ok : {s : State} → Lays s (view s) → soundMachine (view s) ≡ true → Ok (view s)
 unfolding soundMachine
-caller-ok c =
-    let k = simp and-eq-true-iff at (c .sound) in
+machine-ok l h =
+    let k = simp and-eq-true-iff at h in
     record {
-      frame = record { fit = k .0 .0 .0; rows-sound = k .0 .0 .1; rows-apart = k .0 .1; few = rw length-map (c .lays .live); rows-few = c .lays .used };
+      frame = record { fit = k .0 .0 .0; rows-sound = k .0 .0 .1; rows-apart = k .0 .1; few = rw length-map (l .live); rows-few = l .used };
       procs = k .1;
     }
+
+pub caller-ok : {s : State} {i : ℕ} {p : Process} → Caller s i p → Ok (view s)
+caller-ok c = machine-ok (c .lays) (c .sound)
 
 -- the caller put back as it is
 pub caller-back : {s : State} {i : ℕ} {p : Process} → Caller s i p → set (s .procs) i p ≡ s .procs

@@ -8,18 +8,17 @@ use mathlib.Core.Bool.{Bool, true, false, not, and-false}
 use mathlib.Core.List.{List, [], _∷_, _++_, map}
 use lib.ListN.{length, getD, take, drop, replicate, length-append, length-map, length-replicate, List·getD-map}
 use lib.Seq.{take-append-seam, drop-append-seam, set-append-left, take-suc}
-use Rattle.locks.specs.Lists.{padded, keep, member, isZero}
+use Rattle.locks.specs.Lists.{padded, member, isZero}
 use Rattle.locks.proofs.Lists.{any-end}
 use lib.Dec.{eqb}
-use Rattle.locks.proofs.Fewer.{Fewer, fewer-keep, fewer-length}
+use Rattle.locks.proofs.Fewer.{Fewer, fewer-length}
 use borrow.Author.Tests.{eq-eqb, ne-eqb, not-true, not-false}
-use Rattle.locks.proofs.Loops.{Walk, walk-start, walk-next, walk-end, Packed, pack, skip, sifted, keep-sift}
-use Rattle.rules.specs.Signals.{gone, arrives}
+use Rattle.rules.specs.Signals.{arrives}
 use Rattle.rules.specs.Clock.{slept, rings, alarms, ticked}
 use Rattle.locks.specs.Rows.{rowsOf, laidRows, noRow, waitingOf}
 use Rattle.locks.specs.declared.rows.Row.{Row}
 use Rattle.locks.specs.declared.rows.Table.{Table}
-use Rattle.rules.specs.State.{Machine, noProcess, newProcess, view, laid, has, pids, processOf, put, each, granted, wokenBy, rowsLeft, withAlarm}
+use Rattle.rules.specs.State.{Machine, noProcess, newProcess, view, laid, pids, processOf, put, each, granted, wokenBy, rowsLeft, withAlarm}
 use Rattle.rules.specs.declared.state.Process.{Process}
 use Rattle.rules.specs.declared.state.State.{State}
 use Rattle.rules.proofs.States.{view-laid}
@@ -232,52 +231,6 @@ module _ (rows : List Row) (p : Process) where
 pub not-timed : (p : Process) → (p .rest .sleep ≡ 3 → ⊥) → slept p ≡ p
 unfolding slept
 not-timed p h = rw (ne-eqb (p .rest .sleep) 3 h)
-
--- ---- one process leaves
-
--- those of the first i that stay are packed into us, k in number
-pub record Leaving (n : ℕ) (s t : State) (k i : ℕ) : Type 0 where
-  pub walk : Walk (s .procs) 16 (s .live) (s .live) i
-  pub packs : Packed noProcess (λ _ p. not (has n p)) (s .procs) 16 i (t .procs) k
-  pub table : t .table ≡ s .table
-  pub next : t .next ≡ s .next
-
-pub leaving : (n : ℕ) {s : State} {z : Process} → Lays s (view s) → z ≡ noProcess → Leaving n s (record { procs = replicate 16 z; live = s .live; table = s .table; next = s .next }) 0 0
-unfolding padded
-leaving n {s} l e =
-    let f = lays-fits l in
-    record {
-      walk = walk-start (s .procs) 16 (s .live) (s .live) (lays-long l) (omega arith);
-      packs = record { behind = omega arith; places = rw e; count = refl };
-      table = refl;
-      next = refl;
-    }
-
-module _ {n : ℕ} {s t : State} {k i : ℕ} (g : Leaving n s t k i) (d : Process) (l : i < s .live) where
-  pub stays-on : (getD (s .procs) i d .pid ≡ n → ⊥) → Leaving n s (stored k (getD (s .procs) i d) t) (k + 1) (i + 1)
-  stays-on h =
-      record { walk = walk-next (g .walk) l; packs = pack (g .walk) _ d l (g .packs) (rw (ne-eqb (getD (s .procs) i d .pid) n h)); table = g .table; next = g .next }
-
-  pub leaves : getD (s .procs) i d .pid ≡ n → Leaving n s t k (i + 1)
-  leaves h = record { walk = walk-next (g .walk) l; packs = skip (g .walk) _ d l (g .packs) (rw (eq-eqb (getD (s .procs) i d .pid) n h)); table = g .table; next = g .next }
-
-pub left : {n : ℕ} {s t : State} {k i : ℕ} → Lays s (view s) → Leaving n s t k i → s .live ≤ i
-    → Lays (record { procs = t .procs; live = k; table = t .table; next = t .next }) (gone n (view s))
-unfolding gone laid view
-left {n} {s} {t} {k} {i} l g h =
-    let e : sifted (λ _ p. not (has n p)) (s .procs) i ≡ keep (λ p. not (has n p)) (take (s .live) (s .procs)) =
-    rw (walk-end (g .walk) h) (keep-sift (λ p. not (has n p)) [] (take (s .live) (s .procs)))
-    in
-    record {
-      is = λ j. record {
-        procs = (g .packs .places ∙ ap (padded 16 noProcess) e) j;
-        live = (g .packs .count ∙ ap length e) j;
-        table = (g .table ∙ lays-table l) j;
-        next = g .next j;
-      };
-      live = le-trans (fewer-length (fewer-keep (λ p. not (has n p)) (take (s .live) (s .procs)))) (l .live);
-      used = l .used;
-    }
 
 -- ---- one alarm more
 

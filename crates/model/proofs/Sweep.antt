@@ -2,9 +2,9 @@
 use Prim.Native.Nat.{ℕ, _+_, _*_, _≤_, _<_}
 use native.Mathlib.Omega.{arith}
 use mathlib.Core.Path.{_≡_, refl, sym, ap, _∙_}
-use mathlib.Core.Bool.{Bool, true, false, cond, not, _&&_, and-false}
-use mathlib.Core.List.{List, map, _++_}
-use lib.ListN.{length, getD, take, drop, length-map}
+use mathlib.Core.Bool.{Bool, true, false, cond, not, _&&_}
+use mathlib.Core.List.{map}
+use lib.ListN.{length, getD, take, length-map}
 use lib.Seq.{drop-cons, getD-at, length-take-le}
 use Rattle.locks.specs.Lists.{mask}
 use Rattle.locks.specs.Rows.{rowsOf}
@@ -13,7 +13,7 @@ use Rattle.rules.specs.State.{view, sleeps}
 use Rattle.rules.specs.declared.state.Process.{Process}
 use Rattle.rules.specs.declared.state.State.{State}
 use Rattle.model.specs.Laid.{Lays, Tidy, stored, wakesBy}
-use Rattle.model.proofs.Laying.{Changing, changing, change, spare, changed, lays-fits, lays-long}
+use Rattle.model.proofs.Laying.{Changing, change, spare, changed, lays-fits, lays-long}
 use Rattle.model.proofs.Marks.{Marked, marked, mark, mark-bit, mark-small}
 
 -- the first i are changed and marked

@@ -3,9 +3,9 @@ use Prim.Native.Nat.{ℕ, _+_, _-_, _≤_, _<_}
 use native.Mathlib.Omega.{arith}
 use native.Mathlib.Numerals.{add-one}
 use mathlib.Core.Path.{_≡_, refl, sym, ap, _∙_}
-use mathlib.Core.Bool.{Bool, true, false, not, _&&_, _||_, or-true, or-false, and-eq-true-iff}
+use mathlib.Core.Bool.{Bool, true, false, not, _&&_, _||_, or-true, or-false}
 use mathlib.Core.List.{List, [], _∷_, _++_, map, append-assoc, map-append}
-use lib.ListN.{length, getD, take, drop, take-append-drop, length-map}
+use lib.ListN.{length, getD, take, drop, take-append-drop}
 use lib.Seq.{take-suc, take-all, map-set-same}
 use lib.Dec.{eqb, leb}
 use borrow.Author.Tests.{eqb-true, eqb-false, eq-eqb, ne-eqb, leb-true}
@@ -26,6 +26,7 @@ use Rattle.rules.proofs.Frame.{Ok, fit-ascend, pids-map, live-pid}
 use Rattle.rules.proofs.Arrivals.{slept-pid}
 use Rattle.soundness.proofs.Laws.{take-pids}
 use Rattle.model.specs.Laid.{Lays, placeOf, stored, wakesBy, masked}
+use Rattle.model.proofs.Kept.{machine-ok}
 use Rattle.model.proofs.Laying.{lays-own, lays-live, lays-put, then, not-timed, Ringing, ring-on, ring-last, ring-less}
 use Rattle.model.proofs.Masks.{map-masks, settled-masked}
 use Rattle.model.proofs.Events.{process-here, lives-here}
@@ -168,15 +169,6 @@ module _ (p : Process) where
       calm false = refl
 
 -- ---- the second where no alarm rings
-
-machine-ok : {s : State} → Lays s (view s) → soundMachine (view s) ≡ true → Ok (view s)
-unfolding soundMachine
-machine-ok l h =
-    let k = simp and-eq-true-iff at h in
-    record {
-      frame = record { fit = k .0 .0 .0; rows-sound = k .0 .0 .1; rows-apart = k .0 .1; few = rw length-map (l .live); rows-few = l .used };
-      procs = k .1;
-    }
 
 pub second-settled : (s : State) {t : State} {a : Answer} {w : ℕ} → Lays s (view s) → soundMachine (view s) ≡ true → any due (s .procs) ≡ false → Lays t (each second (view s)) → w ≡ mask (wakesBy second) (view s .procs) → a ≡ masked 0 w 0
     → record { answer = a; state = t } ≡ settled s (answered done 0 0 (ticked (view s)))

@@ -6,14 +6,14 @@ use processes::*;
 use rules::state::*;
 use soundness::pids_of;
 ghost use mathlib.Core.Path.{_≡_};
+ghost use mathlib.Core.Bool.{true};
 ghost use Prim.Native.Nat.{_≤_, _<_};
 ghost use Rattle.rules.specs.State.{view, lives};
-ghost use Rattle.rules.specs.Calls.{doExit, outlived, sendKill, doFShell};
+ghost use Rattle.rules.specs.Signals.{arrives};
+ghost use Rattle.rules.specs.Calls.{doExit, outlived, sendKill};
 ghost use Rattle.rules.specs.Step.{settled};
 ghost use Rattle.processes.specs.Told.{toldNo};
 ghost use Rattle.model.specs.Laid.{Lays, Caller, BornAs};
-ghost use mathlib.Core.Bool.{true};
-ghost use Rattle.rules.specs.Signals.{arrives};
 ghost use Rattle.model.specs.Target.{Target};
 
 const BADCALL: u8 = 5;

@@ -129,15 +129,9 @@ pub fn advance(mut s: State, e: Event) -> Stepped
             let told = y.told;
             told
         }
-        Course::Unlock => {
-            return unlock(s, i, p, e);
-        }
-        Course::Kill => {
-            return kill(s, i, p, e);
-        }
-        Course::Exit => {
-            return exit(s, i, p);
-        }
+        Course::Unlock => return unlock(s, i, p, e),
+        Course::Kill => return kill(s, i, p, e),
+        Course::Exit => return exit(s, i, p),
     };
     let q = x.process;
     s.procs[i] = q;

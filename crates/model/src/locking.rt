@@ -1,8 +1,8 @@
 // Lock and unlock.
 use crate::answers::*;
 use crate::state::*;
-use locks::rows::*;
 use chains::leads_back;
+use locks::rows::*;
 use processes::*;
 use rules::state::*;
 ghost use mathlib.Core.Path.{_≡_};

@@ -1,9 +1,6 @@
 -- `model::answers::settle` meets its contract: the bits of the places from i on. Assumes nothing.
 use Rattle.model.proofs.answers.settle.Statement.{statement}
 use Rattle.model.proofs.answers.settle.Tie as tie
-use Rattle.model.proofs.answers.shifted.Reads as shifted-reads
-use Rattle.model.proofs.state.place.Reads as place-reads
-use Rattle.soundness.proofs.pids_of.Reads as pids-of-reads
 use borrow.Author.Needs.{needs}
 use mathlib.Core.Logic.{⊎-elim}
 use Prim.Native.Nat.{_-_}

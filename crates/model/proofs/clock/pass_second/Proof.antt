@@ -1,7 +1,6 @@
 -- `model::clock::pass_second` meets its contract: the processes of the first i places have lost a second. Assumes nothing.
 use Rattle.model.proofs.clock.pass_second.Statement.{statement}
 use Rattle.model.proofs.clock.pass_second.Tie as tie
-use Rattle.processes.proofs.lose_second.Reads as lose-second-reads
 use borrow.Author.Needs.{needs}
 use Prim.Native.Nat.{_-_}
 use mathlib.Core.Logic.{⊎-elim}

@@ -4,18 +4,18 @@ use Rattle.model.proofs.event.advance.Statement.{statement}
 use Rattle.model.proofs.event.advance.Tie as tie
 use Rattle.model.proofs.event.advance.Lts as lts
 use Prim.Native.Nat.{ℕ, _+_, _-_, _≤_, _<_}
-use borrow.Author.Tests.{eq-eqb, eqb-true, eqb-false, not-true, not-false}
+use borrow.Author.Tests.{eqb-true, eqb-false, not-true, not-false}
 use borrow.Fn.Kinds as kinds
 use native.Mathlib.Omega.{arith}
 use mathlib.Core.Path.{_≡_, refl, sym, ap, _∙_}
 use mathlib.Core.Bool.{true, false}
 use mathlib.Core.Logic.{⊎-elim}
-use lib.ListN.{getD, take, length-map}
+use lib.ListN.{getD, length-map}
 use lib.Seq.{set-getD}
-use Rattle.rules.specs.State.{view, pids, lives, processOf, sleeps}
+use Rattle.rules.specs.State.{view, lives, processOf, sleeps}
 use Rattle.rules.specs.Signals.{taken}
 use Rattle.rules.specs.Calls.{ownCall}
-use Rattle.rules.specs.Sound.{sound, soundMachine}
+use Rattle.rules.specs.Sound.{sound}
 use Rattle.rules.specs.Step.{reported, stepOf}
 use Rattle.rules.specs.declared.state.Process.{Process}
 use Rattle.rules.specs.declared.state.State.{State}
@@ -30,7 +30,7 @@ use Rattle.model.proofs.Laying.{lays-fits, Seeking, seeking, seek, soug
 use Rattle.model.proofs.Kept.{keeps, own-pids, taken-pids, reported-pids}
 use Rattle.model.proofs.Locks.{caller-fits, lays-used}
 use Rattle.model.proofs.Sound.{sound-lays}
-use Rattle.model.proofs.Events.{sound-machine, some-live, advanced, lives-here, lives-not, process-here, caller-here, next-fits, ticks, kind-two}
+use Rattle.model.proofs.Events.{sound-machine, some-live, advanced, lives-here, lives-not, process-here, caller-here, next-fits, kind-two}
 
 abbrev Inv-loop : tie.InvT-loop
 Inv-loop e s i₀ i = Seeking (e .caller) s i × (i < s .live)

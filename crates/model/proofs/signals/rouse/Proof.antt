@@ -2,8 +2,6 @@
 use borrow.Author.Needs.{needs}
 use Rattle.model.proofs.signals.rouse.Statement.{statement}
 use Rattle.model.proofs.signals.rouse.Tie as tie
-use Rattle.processes.proofs.woken_by.Reads as woken-by-reads
-use mathlib.Core.Path.{_≡_}
 use borrow.Author.Tests.{eq-eqb, ne-eqb}
 use Rattle.rules.specs.Signals.{roused}
 

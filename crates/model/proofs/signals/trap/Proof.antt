@@ -2,7 +2,6 @@
 use borrow.Author.Needs.{needs}
 use Rattle.model.proofs.signals.trap.Statement.{statement}
 use Rattle.model.proofs.signals.trap.Tie as tie
-use Rattle.model.proofs.signals.rouse.Reads as rouse-reads
 use Prim.Native.Nat.{_-_, _<_}
 use native.Mathlib.Omega.{arith}
 use Rattle.processes.proofs.Taking.{bit-in-byte}

@@ -2,12 +2,8 @@
 use borrow.Author.Needs.{needs}
 use Rattle.model.proofs.signals.trap_at.Statement.{statement}
 use Rattle.model.proofs.signals.trap_at.Tie as tie
-use Rattle.locks.proofs.rows.without_waiting.Reads as without-waiting-reads
-use Rattle.model.proofs.signals.trap.Reads as trap-reads
-use Rattle.model.proofs.state.replace.Reads as replace-reads
-use Rattle.model.proofs.signals.wake_all.Reads as wake-all-reads
 use Rattle.locks.specs.Rows.{withoutWaiting}
-use Rattle.rules.specs.State.{view, put, rowsLeft}
+use Rattle.rules.specs.State.{view, rowsLeft}
 use Rattle.rules.proofs.Arrivals.{fewer-without}
 use Rattle.model.proofs.Laying.{lays-own, then, fewer-tidy, left-rows}
 

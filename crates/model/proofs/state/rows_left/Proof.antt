@@ -10,8 +10,6 @@ use Rattle.rules.specs.State.{view, granted, rowsLeft}
 use Rattle.model.specs.Laid.{masked}
 use Rattle.model.proofs.Sweep.{Sweeping, sweeping, sweep-woken, sweep-same, swept}
 use Rattle.model.proofs.Laying.{not-asleep, still-waits, wakes}
-use Rattle.model.proofs.answers.with_masks.Reads as with-masks-reads
-use Rattle.processes.proofs.woken_by.Reads as woken-by-reads
 
 abbrev Inv-loop : tie.InvT-loop
 Inv-loop t s₀ woken₀ bit₀ i₀ s woken bit i = Sweeping (granted (rowsOf t)) t s₀ s woken bit i
