@@ -1,19 +1,19 @@
 -- What a sound state's parts are, and the loop over its sixteen places. Assumes nothing.
-use Prim.Native.Nat.{ℕ, suc, _+_, _-_, _*_, _≤_, _<_}
+use Prim.Native.Nat.{ℕ, _+_, _-_, _≤_, _<_}
 use native.Mathlib.Omega.{arith}
 use native.Mathlib.Numerals.{add-one}
 use mathlib.Core.Path.{_≡_, refl, sym, ap, _∙_}
 use mathlib.Core.Bool.{Bool, true, false, not, _&&_, false≢true}
-use mathlib.Core.List.{List, [], _∷_, _++_, map, map-append}
-use lib.Dec.{eqb, leb}
-use lib.ListN.{length, getD, take, drop, length-map, drop-of-length-le}
-use lib.Seq.{drop-cons, getD-take, take-suc, take-all, length-take-le}
+use mathlib.Core.List.{List, [], _∷_, map}
+use lib.Dec.{leb}
+use lib.ListN.{length, getD, take, drop, drop-of-length-le}
+use lib.Seq.{drop-cons, length-take-le}
 use borrow.Author.Tests.{leb-true, not-false}
 use Rattle.locks.specs.Lists.{all, between, isZero, member}
 use Rattle.locks.specs.Rows.{rowsOf, zeroRow, soundRow, apart}
 use Rattle.locks.specs.declared.rows.Row.{Row}
 use Rattle.locks.specs.declared.rows.Table.{Table}
-use Rattle.locks.proofs.Tests.{cases, off, and-split, and-join}
+use Rattle.locks.proofs.Tests.{off, and-split, and-join}
 use Rattle.locks.proofs.Lists.{all-mono}
 use Rattle.rules.specs.State.{pids, view}
 use Rattle.rules.specs.Sound.{zeroProcess, pidsFit, soundProcess, sound, soundMachine}
@@ -22,7 +22,7 @@ use Rattle.rules.specs.declared.state.State.{State}
 use Rattle.soundness.specs.Waiting.{fitRow, ownerOf}
 use Rattle.soundness.proofs.Loops.{left-none, Passing, first, pass, fail, passed}
 use Rattle.soundness.proofs.Laws.{take-pids}
-use Rattle.soundness.proofs.Owners.{rowsFor, rowsForAll, rows-for-end, owners-live}
+use Rattle.soundness.proofs.Owners.{owners-of-rows}
 
 -- ---- the parts
 
@@ -106,34 +106,26 @@ no h k = false≢true (sym h ∙ k)
 
 -- ---- the loop
 
-pub record Placed (s : State) (owners : List ℕ) (owned i : ℕ) : Type 0 where
+pub record Placed (s : State) (i : ℕ) : Type 0 where
   pub inside : i ≤ 16
   pub long : length (s .procs) ≡ 16
   pub sounds : Passing (soundProcess (rowsOf (s .table))) (take (s .live) (s .procs)) (s .procs) (s .live) i
   pub zeros : all zeroProcess (drop (s .live) (s .procs)) ≡ all zeroProcess (drop (s .live + (i - s .live)) (s .procs))
-  pub added : owned ≡ rowsForAll (pids (take i (take (s .live) (s .procs)))) owners
-  pub few : owned ≤ 32 * i
 
-pub placed-none : (s : State) (owners : List ℕ) → length (s .procs) ≡ 16 → s .live ≤ 16 → Placed s owners 0 0
-placed-none s owners h l =
+pub placed-none : (s : State) → length (s .procs) ≡ 16 → s .live ≤ 16 → Placed s 0
+placed-none s h l =
     let e : s .live + (0 - s .live) ≡ s .live = omega arith in
-    record { inside = omega arith; long = h; sounds = first _ (s .procs) (s .live) (omega arith); zeros = rw e; added = refl; few = omega arith }
+    record { inside = omega arith; long = h; sounds = first _ (s .procs) (s .live) (omega arith); zeros = rw e }
 
-module _ {s : State} {owners : List ℕ} {owned i : ℕ} (p : Placed s owners owned i) (d : Process) where
+module _ {s : State} {i : ℕ} (p : Placed s i) (d : Process) where
   module _ (l : i < s .live) where
-    pub placed-live : {n : ℕ} → n ≡ rowsFor (getD (s .procs) i d .pid) owners → n ≤ 32 → soundProcess (rowsOf (s .table)) (getD (s .procs) i d) ≡ true → i < 16 → Placed s owners (owned + n) (i + 1)
-    placed-live {n} h m e k =
-        let t : List Process = take (s .live) (s .procs) in
-        let a : i < length t = rw (length-take-le (s .live) (s .procs) (p .sounds .fits)) l in
-        let f : take (suc i) t ≡ take i t ++ getD (s .procs) i d ∷ [] = take-suc t i d a ∙ rw (getD-take (s .live) (s .procs) i d l) in
-        let g : pids (take (i + 1) t) ≡ pids (take i t) ++ getD (s .procs) i d .pid ∷ [] = rw (add-one i, f) (map-append _ (take i t) (getD (s .procs) i d ∷ [])) in
+    pub placed-live : soundProcess (rowsOf (s .table)) (getD (s .procs) i d) ≡ true → i < 16 → Placed s (i + 1)
+    placed-live e k =
         let z : s .live + (i + 1 - s .live) ≡ s .live + (i - s .live) = omega arith in record {
           inside = omega arith;
           long = p .long;
           sounds = pass (p .sounds) d l e;
           zeros = rw z (p .zeros);
-          added = rw (g, rows-for-end (pids (take i t)) (getD (s .procs) i d .pid) owners, p .added, h);
-          few = omega (arith, p .few);
         }
 
     pub live-fails : soundProcess (rowsOf (s .table)) (getD (s .procs) i d) ≡ false → Parts s → ⊥
@@ -145,46 +137,37 @@ module _ {s : State} {owners : List ℕ} {owned i : ℕ} (p : Placed s owners ow
         let e : s .live + (i - s .live) ≡ i = omega arith in
         p .zeros ∙ rw (e, drop-cons (s .procs) i d (omega (arith, p .long)), add-one i)
 
-    pub placed-unused : zeroProcess (getD (s .procs) i d) ≡ true → Placed s owners owned (i + 1)
+    pub placed-unused : zeroProcess (getD (s .procs) i d) ≡ true → Placed s (i + 1)
     placed-unused e =
-        let t : List Process = take (s .live) (s .procs) in
-        let a : length t ≡ s .live = length-take-le (s .live) (s .procs) (p .sounds .fits) in
         let z : s .live + (i + 1 - s .live) ≡ i + 1 = omega arith in record {
           inside = omega arith;
           long = p .long;
           sounds = record { fits = p .sounds .fits; same = p .sounds .same ∙ rw (left-none (s .procs) (s .live) i (p .sounds .fits) l, left-none (s .procs) (s .live) (i + 1) (p .sounds .fits) (omega arith)) };
           zeros = rest-told ∙ rw (e, z);
-          added = p .added ∙ rw (take-all i t (omega arith), take-all (i + 1) t (omega arith));
-          few = omega (arith, p .few);
         }
 
     pub unused-fails : zeroProcess (getD (s .procs) i d) ≡ false → Parts s → ⊥
     unused-fails e q = no (rest-told ∙ rw e) (q .zeros)
 
--- as many owners as rows are in use
-pub owners-told : (t : Table) (every : List ℕ) → length (t .rows) ≡ 32 → t .used ≤ 32 → take (length (rowsOf t)) every ≡ map ownerOf (rowsOf t)
-    → (take (t .used) every ≡ map ownerOf (rowsOf t)) × (length (take (t .used) every) ≡ t .used)
+-- what the owners of all rows tell
+pub owners-told : (t : Table) (ns every : List ℕ) → length (t .rows) ≡ 32 → t .used ≤ 32 → take (length (rowsOf t)) every ≡ map ownerOf (rowsOf t)
+    → all (λ x. member x ns) (take (t .used) every) ≡ all (λ r. member (r .owner) ns) (rowsOf t)
 unfolding rowsOf
-owners-told t every h l e =
+owners-told t ns every h l e =
     let n : length (take (t .used) (t .rows)) ≡ t .used = length-take-le (t .used) (t .rows) (omega arith) in
     let f : take (t .used) every ≡ map ownerOf (take (t .used) (t .rows)) = ap (λ k. take k every) (sym n) ∙ e in
-    (f, ap length f ∙ length-map (take (t .used) (t .rows)) ownerOf ∙ n)
+    ap (all (λ x. member x ns)) f ∙ owners-of-rows ns (take (t .used) (t .rows))
 
-pub placed-all : {s : State} {owners : List ℕ} {owned i : ℕ} → Placed s owners owned i → 16 ≤ i → s .live ≤ 16 → owners ≡ map ownerOf (rowsOf (s .table)) → length owners ≡ s .table .used
+pub placed-all : {s : State} {i : ℕ} → Placed s i → 16 ≤ i → s .live ≤ 16
     → (between 1 16 (s .live) && leb (s .table .used) 32) ≡ true
     → all zeroRow (drop (s .table .used) (s .table .rows)) ≡ true
     → pidsFit (take (s .live) (pids (s .procs))) (s .next) ≡ true
     → (all fitRow (rowsOf (s .table)) && apart (rowsOf (s .table))) ≡ true
-    → eqb owned (s .table .used) ≡ sound s
-placed-all {s} {owners} {owned} {i} p l h o u a b c f =
-    let n : length (take (s .live) (s .procs)) ≡ s .live = length-take-le (s .live) (s .procs) (p .sounds .fits) in
+    → all (λ r. member (r .owner) (take (s .live) (pids (s .procs)))) (rowsOf (s .table)) ≡ true
+    → true ≡ sound s
+placed-all {s} {i} p l h a b c f y =
     let e : s .live + (i - s .live) ≡ i = omega arith in
-    let k : owned ≡ rowsForAll (take (s .live) (pids (s .procs))) (map ownerOf (rowsOf (s .table))) = p .added ∙ rw (take-all i (take (s .live) (s .procs)) (omega arith), o, take-pids (s .live) (s .procs)) in
-    let t : eqb owned (s .table .used) ≡ all (λ r. member (r .owner) (take (s .live) (pids (s .procs)))) (rowsOf (s .table)) =
-    ap (eqb owned) (sym u ∙ ap length o) ∙ rw k (owners-live (take (s .live) (pids (s .procs))) (s .next) (rowsOf (s .table)) c) in
-    cases (all (λ r. member (r .owner) (take (s .live) (pids (s .procs)))) (rowsOf (s .table)))
-    (λ y. t ∙ y
-    ∙ sym
+    sym
     (whole s
     (record {
       counts = a;
@@ -194,5 +177,4 @@ placed-all {s} {owners} {owned} {i} p l h o u a b c f =
       rows = f;
       owned = y;
       procs = passed (p .sounds) (omega arith);
-    })))
-    (λ y. t ∙ y ∙ unsound s (λ q. no y (q .owned)))
+    }))

@@ -5,7 +5,7 @@ use mathlib.Core.Bool.{Bool, true, false, cond, _&&_}
 use mathlib.Core.List.{List, [], _∷_, map}
 use lib.Dec.{eqb, ltb}
 use lib.ListN.{length, getD, take, drop}
-use Rattle.locks.specs.Lists.{any, all, between, isZero, sift}
+use Rattle.locks.specs.Lists.{any, all, between, isZero, member, sift}
 use Rattle.locks.specs.Rows.{twin, waits, apart}
 use Rattle.locks.specs.declared.rows.Row.{Row}
 use Rattle.rules.specs.State.{forLock}
@@ -75,6 +75,10 @@ pub record Waiting (rows : List Row) (w : Waiters) : Type 0 where
   pub few : w .count ≤ 32
   pub them : w .apart ≡ true → take (w .count) (w .owners) ≡ waiters rows
   pub everyone : w .apart ≡ true → take (length rows) (w .all) ≡ map ownerOf rows
+
+-- nothing stands there but zeros and some of ns
+pub record Homes (ns homes : List ℕ) : Type 0 where
+  pub each : (k : ℕ) → (getD homes k 0 ≡ 0 → ⊥) → member (getD homes k 0) ns ≡ true
 
 -- ---- processes
 

@@ -5,10 +5,10 @@ ghost use mathlib.Core.List.{List, [], _∷_};
 ghost use lib.Dec.{eqb};
 ghost use lib.ListN.{length, take, drop};
 ghost use Prim.Native.Nat.{ℕ, _≤_};
-ghost use Rattle.locks.specs.Lists.{all, isZero, keep};
+ghost use Rattle.locks.specs.Lists.{all, isZero, keep, member};
 ghost use Rattle.locks.specs.Rows.{rowsOf, zeroRow};
 ghost use Rattle.locks.specs.declared.rows.Row.{Row};
-ghost use Rattle.soundness.specs.Waiting.{value, Worded, fitRow, Told, Noted, meeting, Waiting};
+ghost use Rattle.soundness.specs.Waiting.{value, Worded, fitRow, Told, Noted, meeting, Waiting, Homes};
 
 // Sixteen bytes as two numbers: the first eight and the last, the first of each the lowest.
 struct Words {
@@ -206,4 +206,54 @@ pub(crate) fn rows_of(owners: &[u16; 32], n: usize, pid: u16) -> u16
         i += 1;
     }
     k
+}
+
+fn among(ns: [u16; 16], n: usize, pid: u16) -> bool
+    requires { ⌜ n ≤ 16 ⌝ }
+    ensures { λ b. ⌜ b ≡ member pid (take n ns) ⌝ }
+{
+    let mut i: usize = 0;
+    while i < n {
+        if ns[i] == pid {
+            return true;
+        }
+        i += 1;
+    }
+    false
+}
+
+// Each PID at the place of its last six bits; where two have the same, the later.
+fn homes_of(ns: [u16; 16], n: usize) -> [u16; 64]
+    requires { ⌜ n ≤ 16 ⌝ }
+    ensures { λ h. ⌜ Homes (take n ns) h ⌝ }
+{
+    let mut homes = [0u16; 64];
+    let mut i: usize = 0;
+    while i < n {
+        let pid = ns[i];
+        let k = (pid % 64) as usize;
+        homes[k] = pid;
+        i += 1;
+    }
+    homes
+}
+
+// Most owners are at home; the others are looked for.
+pub(crate) fn owners_live(owners: &[u16; 32], used: usize, ns: [u16; 16], n: usize) -> bool
+    requires { ⌜ (used ≤ 32) × ((length (now owners) ≡ 32) × (n ≤ 16)) ⌝ }
+    ensures { λ b. ⌜ b ≡ all (λ x. member x (take n ns)) (take used (now (owners .entry))) ⌝ }
+{
+    let homes = homes_of(ns, n);
+    let mut i: usize = 0;
+    while i < used {
+        let owner = owners[i];
+        let k = (owner % 64) as usize;
+        if owner == 0 || homes[k] != owner {
+            if !among(ns, n, owner) {
+                return false;
+            }
+        }
+        i += 1;
+    }
+    true
 }

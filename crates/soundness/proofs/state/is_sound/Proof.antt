@@ -1,24 +1,34 @@
--- `soundness::state::is_sound` meets its contract: the places before place i are tested, and the rows of the live processes there added up. Assumes nothing.
+-- `soundness::state::is_sound` meets its contract: the places before place i are tested. Assumes nothing.
 use Rattle.soundness.proofs.state.is_sound.Statement.{statement}
 use Rattle.soundness.proofs.state.is_sound.Tie as tie
 use borrow.Author.Needs.{needs}
 use Prim.Native.Nat.{_-_, _≤_}
-use native.Mathlib.Omega.{arith}
 use mathlib.Core.Path.{_≡_, sym, _∙_}
 use mathlib.Core.Logic.{⊎-elim}
 use lib.ListN.{length, take, length-map}
 use borrow.Author.Tests.{not-true, not-false}
+use Rattle.locks.specs.Lists.{all, member}
+use Rattle.locks.specs.Rows.{rowsOf}
+use Rattle.rules.specs.State.{pids}
 use Rattle.soundness.proofs.Waiting.{sound-told}
 use Rattle.soundness.proofs.Whole.{in-range, unsound, no, Placed, placed-none, placed-live, live-fails, placed-unused, unused-fails, owners-told, placed-all}
 
 abbrev Inv-loop : tie.InvT-loop
-Inv-loop s used w owners all owned₀ i₀ owned i = Placed s (take used all) owned i
+Inv-loop s used w owners i₀ i = Placed s i
 
 abbrev μ-loop : tie.MeasureT-loop
-μ-loop s used w owners all owned₀ i₀ owned i = 16 - i
+μ-loop s used w owners i₀ i = 16 - i
 
 ranges : (e : tie.Else1 Inv-loop μ-loop) → let s = e .before .before .args .t1 in (s .live ≤ 16) × (s .table .used ≤ 32)
 ranges e = in-range _ _ (e .before .counts-fit .ensures) (e .if1 .left)
+
+-- what the test of the owners says
+owned : (c : tie.After-owners-live Inv-loop μ-loop) → let s = c .before .before .before .before .before .before .before .before .before .before .before .before .before .before .before .before .args .t1 in c .owners-live .result ≡ all (λ r. member (r .owner) (take (s .live) (pids (s .procs)))) (rowsOf (s .table))
+owned c =
+    let s = c .before .before .before .before .before .before .before .before .before .before .before .before .before .before .before .before .args .t1 in
+    let w = c .before .before .before .before .before .before .waiters-of in
+    let n : length (s .table .rows) ≡ 32 = simp length-map at (c .before .before .before .before .before .before .before .before .before .before .before .before .before .before .before .before .good .0 .1 .1 .1 .1 .0 .1 .1 .0 .1 .0 .1) in
+    rw (← c .before .before .before .before .before .before .before .before .before .before .before .before .before .pids-of .ensures) (c .owners-live .ensures ∙ owners-told (s .table) (take (s .live) (c .before .before .before .before .before .before .before .before .before .before .before .before .before .pids-of .result)) _ n (ranges (c .before .before .before .before .before .before .before .before .before .before .before .before .before .before) .1) (w .ensures .everyone (not-false _ (c .before .before .before .before .if4 .left))))
 
 counts-fit-requires : tie.Need-counts-fit-requires Inv-loop μ-loop
 counts-fit-requires c κs = search needs
@@ -47,8 +57,14 @@ waiters-of-requires c κs = ranges (c .before .before .before .before .before .b
 returns-4 : tie.Need-returns-4 Inv-loop μ-loop
 returns-4 c = unsound _ (λ p. no (sym (c .before .before .waiters-of .ensures .alone) ∙ not-true _ (c .if4 .taken)) (p .rows))
 
+owners-live-requires : tie.Need-owners-live-requires Inv-loop μ-loop
+owners-live-requires c κs = let r = ranges (c .before .before .before .before .before .before .before .before .before .before .before .before .before) in (r .1, (search needs, r .0))
+
+returns-5 : tie.Need-returns-5 Inv-loop μ-loop
+returns-5 c = unsound _ (λ p. no (sym (owned (c .before)) ∙ not-true _ (c .if5 .taken)) (p .owned))
+
 loop-holds : tie.Need-loop-holds Inv-loop μ-loop
-loop-holds c = placed-none _ _ (simp length-map at (c .before .before .before .before .before .before .before .before .before .before .before .before .before .before .good .0 .1 .1 .0 .1 .0 .1)) (ranges (c .before .before .before .before .before .before .before .before .before .before .before .before) .0)
+loop-holds c = placed-none _ (simp length-map at (c .before .before .before .before .before .before .before .before .before .before .before .before .before .before .before .before .before .good .0 .1 .1 .0 .1 .0 .1)) (ranges (c .before .before .before .before .before .before .before .before .before .before .before .before .before .before .before) .0)
 
 mul-p : tie.Need-mul-p Inv-loop μ-loop
 mul-p c = search needs
@@ -57,15 +73,7 @@ element-copy-out-p : tie.Need-element-copy-out-p Inv-loop μ-loop
 element-copy-out-p c = search needs
 
 rows-of-requires : tie.Need-rows-of-requires Inv-loop μ-loop
-rows-of-requires c κs = (ranges (c .before .before .before .before .before .before .before .before .before .before .before .before .before .before .before .before .before) .1, search needs)
-
-add-owned : tie.Need-add-owned Inv-loop μ-loop
-add-owned c =
-    let o = c .before .before .before .before .before in
-    record { fits = omega (arith, c .rows-of .ensures .0, o .loop .inv .few, c .before .before .before .before .loop-test .taken, ranges (o .before .before .before .before .before .before .before .before .before .before .before .before .before) .1) }
-
-rows-of-requires-2 : tie.Need-rows-of-requires-2 Inv-loop μ-loop
-rows-of-requires-2 c κs = search needs
+rows-of-requires c κs = search needs
 
 cast-sound-process : tie.Need-cast-sound-process Inv-loop μ-loop
 cast-sound-process c = search needs
@@ -73,22 +81,15 @@ cast-sound-process c = search needs
 sound-process-requires : tie.Need-sound-process-requires Inv-loop μ-loop
 sound-process-requires c κs = search needs
 
-returns-5 : tie.Need-returns-5 Inv-loop μ-loop
-returns-5 c =
-    let s = c .before .before .before .before .before .before in
-    let o = s .before .before in
-    let g = o .before .before .before .before in
-    unsound _ (live-fails (o .before .loop .inv) _ (s .if5 .taken)
-    (sound-told _ _ _ (g .before .before .waiters-of .ensures) (not-false _ (g .if4 .left)) (c .before .before .rows-of2 .ensures .1) (c .before .sound-process .ensures) ∙ not-true _ (c .if6 .taken)))
+returns-6 : tie.Need-returns-6 Inv-loop μ-loop
+returns-6 c = unsound _ (live-fails (c .before .before .before .before .before .before .before .loop .inv) _ (c .before .before .before .before .if6 .taken)
+    (sound-told _ _ _ (c .before .before .before .before .before .before .before .before .before .before .before .before .before .before .before .waiters-of .ensures) (not-false _ (c .before .before .before .before .before .before .before .before .before .before .before .before .before .if4 .left)) (c .before .before .rows-of .ensures .1) (c .before .sound-process .ensures) ∙ not-true _ (c .if7 .taken)))
 
 zero-process-requires : tie.Need-zero-process-requires Inv-loop μ-loop
 zero-process-requires c κs = search needs
 
-returns-6 : tie.Need-returns-6 Inv-loop μ-loop
-returns-6 c =
-    let s = c .before .before in
-    let o = s .before .before in
-    unsound _ (unused-fails (o .before .loop .inv) _ (s .if5 .left) (o .loop-test .taken) (sym (c .before .zero-process .ensures) ∙ not-true _ (c .if7 .taken)))
+returns-7 : tie.Need-returns-7 Inv-loop μ-loop
+returns-7 c = unsound _ (unused-fails (c .before .before .before .before .before .loop .inv) _ (c .before .before .if6 .left) (c .before .before .before .before .loop-test .taken) (sym (c .before .zero-process .ensures) ∙ not-true _ (c .if8 .taken)))
 
 add-i : tie.Need-add-i Inv-loop μ-loop
 add-i c = search needs
@@ -98,34 +99,22 @@ loop-less c = search needs
 
 loop-again : tie.Need-loop-again Inv-loop μ-loop
 loop-again c =
-    let o = c .before .before in
-    let p = o .before .loop .inv in
-    let l = o .loop-test .taken in
-    let g = o .before .before .before .before in
+    let p = c .before .before .before .loop .inv in
+    let l = c .before .before .loop-test .taken in
     ⊎-elim
-    (λ w. rw (w .7) (placed-live p _ (w .0 .taken) (w .2 .ensures .1) (omega (arith, w .2 .ensures .0, ranges (o .before .before .before .before .before .before .before .before .before .before .before .before .before .before) .1))
-    (sound-told _ _ _ (g .before .before .waiters-of .ensures) (not-false _ (g .if4 .left)) (w .4 .ensures .1) (w .5 .ensures) ∙ not-false _ (w .6 .left)) l))
-    (λ w. rw (w .3) (placed-unused p _ (w .0 .left) l (sym (w .1 .ensures) ∙ not-false _ (w .2 .left))))
-    (c .if5 .came)
+    (λ w. placed-live p _ (w .0 .taken) (sound-told _ _ _ (c .before .before .before .before .before .before .before .before .before .before .before .waiters-of .ensures) (not-false _ (c .before .before .before .before .before .before .before .before .before .if4 .left)) (w .2 .ensures .1) (w .3 .ensures) ∙ not-false _ (w .4 .left)) l)
+    (λ w. placed-unused p _ (w .0 .left) l (sym (w .1 .ensures) ∙ not-false _ (w .2 .left)))
+    (c .if6 .came)
 
-cast-result : tie.Need-cast-result Inv-loop μ-loop
-cast-result c = search needs
-
-returns-7 : tie.Need-returns-7 Inv-loop μ-loop
-returns-7 c =
-    let g = c .before .before .before .before in
-    let e = g .before .before .before .before .before .before .before .before .before .before in
-    let s = e .before .before .args .t1 in
-    let w = g .before .before .waiters-of in
-    let n : length (s .table .rows) ≡ 32 = simp length-map at (e .before .before .good .0 .1 .1 .1 .1 .0 .1 .1 .0 .1 .0 .1) in
-    let k = not-false _ (g .if4 .left) in
-    let o = owners-told (s .table) _ n (ranges e .1) (w .ensures .everyone k) in
-    let f = g .before .before .before .before .before .before .before in
-    placed-all (c .before .loop .inv) (c .loop-test .left) (ranges e .0) (o .0) (o .1)
-    (sym (e .before .counts-fit .ensures) ∙ not-false _ (e .if1 .left))
-    (sym (g .before .before .before .before .before .unused-rows .ensures) ∙ not-false _ (g .before .before .before .before .if3 .left))
-    (rw (← f .before .before .pids-of .ensures) (sym (f .before .pids-fit .ensures) ∙ not-false _ (f .if2 .left)))
-    (sym (w .ensures .alone) ∙ k)
+returns-8 : tie.Need-returns-8 Inv-loop μ-loop
+returns-8 c =
+    let e = c .before .before .before .before .before .before .before .before .before .before .before .before .before .before .before .before .before in
+    placed-all (c .before .loop .inv) (c .loop-test .left) (ranges e .0)
+    (sym (c .before .before .before .before .before .before .before .before .before .before .before .before .before .before .before .before .before .before .counts-fit .ensures) ∙ not-false _ (e .if1 .left))
+    (sym (c .before .before .before .before .before .before .before .before .before .before .before .before .unused-rows .ensures) ∙ not-false _ (c .before .before .before .before .before .before .before .before .before .before .before .if3 .left))
+    (rw (← c .before .before .before .before .before .before .before .before .before .before .before .before .before .before .before .before .pids-of .ensures) (sym (c .before .before .before .before .before .before .before .before .before .before .before .before .before .before .before .pids-fit .ensures) ∙ not-false _ (c .before .before .before .before .before .before .before .before .before .before .before .before .before .before .if2 .left)))
+    (sym (c .before .before .before .before .before .before .before .before .before .waiters-of .ensures .alone) ∙ not-false _ (c .before .before .before .before .before .before .before .if4 .left))
+    (sym (owned (c .before .before .before)) ∙ not-false _ (c .before .before .if5 .left))
 
 pub is-sound-spec : {M : Type 1} → statement M
 is-sound-spec =
@@ -142,19 +131,18 @@ is-sound-spec =
     returns-3
     waiters-of-requires
     returns-4
+    owners-live-requires
+    returns-5
     loop-holds
     mul-p
     element-copy-out-p
     rows-of-requires
-    add-owned
-    rows-of-requires-2
     cast-sound-process
     sound-process-requires
-    returns-5
-    zero-process-requires
     returns-6
+    zero-process-requires
+    returns-7
     add-i
     loop-less
     loop-again
-    cast-result
-    returns-7)
+    returns-8)
