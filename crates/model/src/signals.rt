@@ -78,7 +78,7 @@ pub(crate) fn trap(p: Process, signal: usize, a: u32) -> Process
     rouse(q)
 }
 
-// As `rows_left`, where nobody asks who wakes: that one is made one with unlock, which every paper has.
+// As `rows_left`, without the mask (decision 62).
 fn wake_all(s: State, t: Table) -> State
     requires { ⌜ Lays s (view s) × Tidy t ⌝ }
     ensures { λ r. ⌜ Lays r (rowsLeft (rowsOf t) (view s)) ⌝ }
