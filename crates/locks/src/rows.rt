@@ -28,7 +28,7 @@ pub fn least(a: usize, b: usize) -> usize
 }
 
 // Past their 16 bytes all sequences are equal.
-fn same_bytes(x: [u8; 16], y: [u8; 16], len: u8) -> bool
+pub fn same_bytes(x: [u8; 16], y: [u8; 16], len: u8) -> bool
     ensures { λ b. ⌜ b ≡ agree len x y ⌝ }
 {
     let mut n = least(len as usize, 16);
