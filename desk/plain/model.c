@@ -248,7 +248,7 @@ static void set_id(const struct process *p, uint16_t *id,
 static void call_setprior(struct process *p, const struct event *ev,
                           struct answer *an)
 {
-    int negative = ev->d3 >> 31;
+    int negative = (ev->d3 >> 31) != 0;
 
     if (negative ? ev->d3 < (uint32_t)-40 : ev->d3 > 40)
         refuse(an, R_BADCALL);

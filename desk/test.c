@@ -1,0 +1,393 @@
+/*
+ * Holds the two routines of brinefeather.h to document 01. The bytes below, and what should come of them, were worked
+ * out by hand from its rules. Every call is made twice: the files between guard bytes, and then with nothing behind
+ * them, where a memory checker sees a read too far.
+ */
+#include <inttypes.h>
+#include <stdio.h>
+#include <stdlib.h>
+#include <string.h>
+#include "brinefeather.h"
+
+#define MARK(total, right, missing, surplus) 0x##total##right##missing##surplus##u
+
+#define ZERO16 "00000000 00000000 00000000 00000000 "
+#define EXAMPLE_EVENTS "01 3A 0001 " ZERO16 "02 00 0000 " ZERO16 /* getproc from process 1, a tick */
+#define EXAMPLE "0001 0002 000C 0000 0034 0034 " EXAMPLE_EVENTS
+#define PID_1 "00 00 0000 0000 0000 00000001 00000000 " /* getproc from process 1: done, its PID in D3 */
+#define EXAMPLE_ANSWERS PID_1 ZERO16                    /* no one sleeps: a tick is done, and that is all */
+#define EXAMPLE_KEY "0001 0002 0006 " EXAMPLE_ANSWERS
+#define NO_ANSWERS "0001 0000 0006 "
+#define BLANK "0001 0000 000C 0000 000C 000C "
+#define BLANK_SEQUENCES "0001 0000 000C 0002 000C 002C " ZERO16 ZERO16
+#define BAD_PAPER "0002 0002 000C 0000 0034 0034 " EXAMPLE_EVENTS
+#define BAD_SHEET "0002 0000 0006 "
+#define ONE_BLANK "0001 0001 0006 " ZERO16
+#define PAPER_OFF(header) {"paper header off", header, header " " EXAMPLE_EVENTS, EXAMPLE_KEY, 15}
+#define SHEET_OFF(header) {"sheet header off", header, EXAMPLE, header " " EXAMPLE_ANSWERS, 17}
+
+/* One event that names sequence `number` of two. */
+#define NAMES(event, number) "0001 0001 000C 0002 0020 0040 " event " 0000 0000 0000 00000000 00000000 " number \
+    ZERO16 ZERO16
+
+/* Limits: so many ticks that have that sequence number, so many sequences and answers. */
+#define TICKS(times, number) "02 00 0000 0000 0000 0000 00000000 00000000 " number " *" times ":20 "
+#define SEQUENCES(times) ZERO16 "*" times ":16 "
+#define FULL "0001 03E8 000C 0040 4E2C 522C " TICKS("1000", "0040") SEQUENCES("64")
+#define THOUSAND "0001 03E8 0006 " ZERO16 "*1000:16 "
+
+/* Two processes and a conflict. Three bytes of either sequence are ABC; four are ABCX and ABCY. */
+#define CONFLICT "0001 000A 000C 0002 00D4 00F4 " \
+    "01 48 0001 0000 0000 0000 00000000 00000000 0000 " /* fshell: process 2 */ \
+    "01 3E 0001 0000 0000 0001 00000003 00000000 0001 " /* 1 locks ABC unshared */ \
+    "01 3E 0002 0000 0000 0003 00000003 00000000 0002 " /* 2 would, conditionally: locked */ \
+    "01 3E 0002 0000 0000 0002 00000004 00000000 0002 " /* 2 locks ABCY, which is not ABC */ \
+    "01 3E 0002 0000 0000 0001 00000003 00000000 0001 " /* 2 waits for ABC */ \
+    "01 3E 0001 0000 0000 0003 00000004 00000000 0001 " /* 1 locks ABCX, which is not ABCY */ \
+    "01 3F 0001 0000 0000 0000 00000003 00000000 0001 " /* 1 unlocks ABC: the one at position 1 wakes */ \
+    "04 00 0002 0000 0000 0000 00000000 00000000 0000 " /* wake report: granted */ \
+    "01 46 0002 0000 0000 0000 00000000 00000000 0000 " /* exit: the one at position 1 ends */ \
+    "01 3A 0002 0000 0000 0000 00000000 00000000 0000 " /* a call from no live process */ \
+    "41424358 58585858 58585858 58585858 41424359 59595959 59595959 59595959 "
+#define CONFLICT_KEY "0001 000A 0006 " \
+    "00 00 0000 0000 0000 00000002 00000000 " ZERO16 "03 0B 0000 0000 0000 00000000 00000000 " ZERO16 \
+    "01 00 0000 0000 0000 00000000 00000000 " ZERO16 \
+    "00 00 0002 0000 0000 00000000 00000000 00 00 0000 0000 0000 00000000 00000001 " \
+    "02 00 0000 0002 0000 00000000 00000000 03 02 0000 0000 0000 00000000 00000000 "
+
+/* All four bytes of D3 and A0. */
+#define TRAP "0001 0008 000C 0000 00AC 00AC " \
+    "01 39 0001 0000 0000 0000 FFFFFFFF 00000000 0000 " /* priority -1, privileged */ \
+    "01 38 0001 0000 0000 0000 00000000 00000000 0000 " /* getprior */ \
+    "01 48 0001 0000 00FF 0000 00000000 00000000 0000 " /* fshell: process 2, every reaction abort */ \
+    "01 40 0002 0000 0000 0005 00000000 12345678 0000 " /* it traps signal 5, which was abort */ \
+    "01 43 0002 0000 0000 0000 00000001 00000000 0000 " /* alarm in one second */ \
+    "01 44 0002 0000 0000 0000 00000000 00000000 0000 " /* pause */ \
+    "02 00 0000 0000 0000 0000 00000000 00000000 0000 " /* tick: the trap wakes position 1 */ \
+    "03 00 0002 0000 0000 0000 00000000 00000000 0000 " /* take */
+#define TRAP_KEY "0001 0008 0006 " ZERO16 "00 00 0000 0000 0000 FFFFFFFF 00000000 " \
+    "00 00 0000 0000 0000 00000002 00000000 " ZERO16 ZERO16 "01 00 0000 0000 0000 00000000 00000000 " \
+    "00 00 0002 0000 0000 00000000 00000000 00 00 0000 0000 0000 00000005 12345678 "
+
+enum { GUARD = 256, STORE = 90000 };
+
+/* Bytes to lend, and what stands behind them. No bytes is a buffer to fill; of length 0, a null pointer. */
+struct file {
+    const uint8_t *bytes;
+    size_t len, behind;
+};
+
+struct area {
+    uint8_t *then, *now;
+    size_t start, size;
+};
+
+static uint8_t paper_store[STORE], sheet_store[STORE], key_store[2][STORE], wanted_store[STORE];
+static const char *group = "";
+static char fault[200];
+static unsigned checks, wrong;
+
+static void begin(const char *name)
+{
+    if (strcmp(group, name) == 0)
+        return;
+    if (group[0])
+        printf("%s %s%s%s\n", fault[0] ? "FAIL" : "ok", group, fault[0] ? ": " : "", fault);
+    fflush(stdout);
+    group = name;
+    fault[0] = '\0';
+}
+
+static void check(const char *what, uint64_t is, uint64_t should)
+{
+    checks++;
+    if (is == should)
+        return;
+    wrong++;
+    if (!fault[0])
+        snprintf(fault, sizeof fault, "%s: %016" PRIX64 " and not %016" PRIX64, what, is, should);
+}
+
+/* "*1000:20" makes the 20 bytes before it a thousand times 20. */
+static struct file hex(const char *text, uint8_t *store)
+{
+    struct file f = {text ? store : NULL, 0, 0};
+    unsigned byte, times, size;
+
+    memset(store, 0, STORE);
+    for (int used = 0; text && *text; text += used)
+        if (sscanf(text, "*%u:%u %n", &times, &size, &used) == 2)
+            for (; times > 1; times--, f.len += size)
+                memcpy(store + f.len, store + f.len - size, size);
+        else if (sscanf(text, "%2x %n", &byte, &used) == 1)
+            store[f.len++] = (uint8_t)byte;
+        else
+            abort();
+    return f;
+}
+
+static uint8_t *lend(struct area *a, const struct file *f, int again)
+{
+    size_t tail = again && f->bytes ? 0 : GUARD;
+
+    a->start = GUARD + checks % 8; /* so that every alignment has its turn */
+    a->size = a->start + f->len + tail;
+    a->then = malloc(2 * a->size);
+    if (!a->then)
+        abort();
+    a->now = a->then + a->size;
+    memset(a->now, again ? 0x5A : 0xA5, a->size);
+    if (f->bytes)
+        memcpy(a->now + a->start, f->bytes, f->len + (tail ? f->behind : 0));
+    memcpy(a->then, a->now, a->size);
+    return f->len || f->bytes ? a->now + a->start : NULL;
+}
+
+/* Only the first `written` bytes may have been written. */
+static void take_back(const struct area *a, size_t written, const char *what)
+{
+    size_t after = a->start + written;
+
+    check(what, memcmp(a->now, a->then, a->start) == 0, 1);
+    check(what, memcmp(a->now + after, a->then + after, a->size - after) == 0, 1);
+    free(a->then);
+}
+
+static uint64_t mark(const struct file *paper, const struct file *sheet)
+{
+    uint64_t n[2];
+
+    for (int again = 0; again < 2; again++) {
+        struct area p, s;
+        const uint8_t *paper_bytes = lend(&p, paper, again), *sheet_bytes = lend(&s, sheet, again);
+
+        n[again] = brinefeather_mark(paper_bytes, paper->len, sheet_bytes, sheet->len);
+        take_back(&p, 0, "the paper and its guards as they were");
+        take_back(&s, 0, "the sheet and its guards as they were");
+    }
+    check("the same mark again", n[1], n[0]);
+    return n[0];
+}
+
+/* The buffer's bytes differ from call to call, so a byte of the key that is not written shows. */
+static uint64_t key(const struct file *paper, const struct file *room, struct file *written)
+{
+    uint64_t n[2];
+
+    for (int again = 0; again < 2; again++) {
+        struct area p, k;
+        const uint8_t *paper_bytes = lend(&p, paper, again);
+        uint8_t *key_bytes = lend(&k, room, again);
+
+        n[again] = brinefeather_key(paper_bytes, paper->len, key_bytes, room->len);
+        *written = (struct file){key_store[0], brinefeather_refused(n[again]) ? 0 : n[again], 0};
+        check("a key within its buffer", written->len <= room->len, 1);
+        if (written->len > room->len)
+            written->len = 0;
+        memcpy(key_store[again], k.now + k.start, written->len);
+        take_back(&p, 0, "the paper and its guards as they were");
+        take_back(&k, written->len, "all but the key as it was");
+    }
+    check("the same length again", n[1], n[0]);
+    check("the same key again", memcmp(key_store[0], key_store[1], written->len) == 0, 1);
+    return n[0];
+}
+
+static void taken_apart(void)
+{
+    const uint64_t n = MARK(03E8,0001,0002,FFFF);
+
+    begin("the number taken apart");
+    for (unsigned r = BRINEFEATHER_BADPAPER; r <= BRINEFEATHER_NOROOM; r++)
+        check("a refusal number", brinefeather_refused(r), r);
+    check("a key's length", brinefeather_refused(22), 0);
+    check("the least mark", brinefeather_refused(MARK(0001,0000,0000,0000)), 0);
+    check("total", brinefeather_total(n), 1000);
+    check("right", brinefeather_right(n), 1);
+    check("missing", brinefeather_missing(n), 2);
+    check("surplus", brinefeather_surplus(n), 65535);
+    check("perfect", brinefeather_perfect(MARK(0002,0002,0000,0000)) != 0, 1);
+    check("perfect with a surplus", brinefeather_perfect(MARK(0002,0002,0000,0001)) != 0, 0);
+    check("perfect with a wrong answer", brinefeather_perfect(MARK(0002,0001,0000,0000)) != 0, 0);
+    check("perfect, refused", brinefeather_perfect(15) != 0, 0);
+    check("the longest key", brinefeather_key_length(1000), BRINEFEATHER_LONGEST_KEY);
+}
+
+static const struct {
+    const char *group, *what, *paper, *sheet;
+    uint64_t mark;
+} marks[] = {
+    {"example", "document 01's paper and sheet", EXAMPLE, NO_ANSWERS, MARK(0002,0000,0002,0000)},
+    {"key as sheet", "the example's", EXAMPLE, EXAMPLE_KEY, MARK(0002,0002,0000,0000)},
+    {"key as sheet", "two processes, a conflict", CONFLICT, CONFLICT_KEY, MARK(000A,000A,0000,0000)},
+    {"key as sheet", "a trap", TRAP, TRAP_KEY, MARK(0008,0008,0000,0000)},
+    {"answers over", "one", EXAMPLE, "0001 0003 0006 " EXAMPLE_ANSWERS ZERO16, MARK(0002,0002,0000,0001)},
+    {"answers over", "two", EXAMPLE, "0001 0004 0006 " ZERO16 ZERO16 ZERO16 PID_1, MARK(0002,0001,0000,0002)},
+    {"answers missing", "the last", EXAMPLE, "0001 0001 0006 " PID_1, MARK(0002,0001,0001,0000)},
+    {"answers missing", "the last, first wrong", EXAMPLE, ONE_BLANK, MARK(0002,0000,0001,0000)},
+    {"wrong place", "right answers", EXAMPLE, "0001 0002 0006 " ZERO16 PID_1, MARK(0002,0000,0000,0000)},
+    {"zero field not zero", "legal, not right", EXAMPLE, /* its bytes are among the 16 that must agree */
+        "0001 0002 0006 " PID_1 "00 00 0000 0000 0001 00000000 00000000", MARK(0002,0001,0000,0000)},
+    {"empty files", "null paper", NULL, NO_ANSWERS, 15},
+    {"empty files", "empty paper", "", NO_ANSWERS, 15},
+    {"empty files", "null sheet", EXAMPLE, NULL, 17},
+    {"empty files", "empty sheet", EXAMPLE, "", 17},
+    {"empty files", "null both", NULL, NULL, 15},
+    {"blank paper", "no sequences", BLANK, NO_ANSWERS, 16},
+    {"blank paper", "two sequences", BLANK_SEQUENCES, EXAMPLE_KEY, 16},
+    {"blank paper", "not sound in all else", "0001 0000 000C 0000 000C 000D ", NO_ANSWERS, 15},
+    PAPER_OFF("0000 0002 000C 0000 0034 0034"), PAPER_OFF("0002 0002 000C 0000 0034 0034"), /* version */
+    PAPER_OFF("0001 0001 000C 0000 0034 0034"), PAPER_OFF("0001 0003 000C 0000 0034 0034"), /* events */
+    PAPER_OFF("0001 0001 000C 0000 0020 0020"), PAPER_OFF("0001 0003 000C 0000 0048 0048"), /* and what hangs on them */
+    PAPER_OFF("0001 0002 000B 0000 0034 0034"), PAPER_OFF("0001 0002 000D 0000 0034 0034"), /* event offset */
+    PAPER_OFF("0001 0002 000C 0001 0034 0034"), PAPER_OFF("0001 0002 000C 0001 0034 0044"), /* sequences */
+    PAPER_OFF("0001 0002 000C 0000 0033 0034"), PAPER_OFF("0001 0002 000C 0000 0035 0034"), /* sequence offset */
+    PAPER_OFF("0001 0002 000C 0000 0034 0033"), PAPER_OFF("0001 0002 000C 0000 0034 0035"), /* length */
+    PAPER_OFF("0001 4002 000C 0000 0034 0034"), PAPER_OFF("0001 0002 000C 1000 0034 0034"), /* right modulo 65,536 */
+    PAPER_OFF("0100 0200 0C00 0000 3400 3400"),                                             /* little-endian */
+    SHEET_OFF("0000 0002 0006"), SHEET_OFF("0002 0002 0006"), SHEET_OFF("0001 0001 0006"), SHEET_OFF("0001 0003 0006"),
+    SHEET_OFF("0001 0002 0005"), SHEET_OFF("0001 0002 0007"), SHEET_OFF("0001 1002 0006"), SHEET_OFF("0100 0200 0600"),
+    {"sequence number", "the count", NAMES("02 00 0000", "0002 "), ONE_BLANK, MARK(0001,0001,0000,0000)},
+    {"sequence number", "one above, in a call", NAMES("01 3E 0001", "0003 "), ONE_BLANK, 15},
+    {"sequence number", "one above, in a tick", NAMES("02 00 0000", "0003 "), ONE_BLANK, 15},
+    {"sequence number", "256, in an event of no kind", NAMES("09 00 0000", "0100 "), ONE_BLANK, 15},
+    {"order of refusals", "bad paper, bad sheet", BAD_PAPER, BAD_SHEET, 15},
+    {"order of refusals", "bad paper, good sheet", BAD_PAPER, EXAMPLE_KEY, 15},
+    {"order of refusals", "blank paper, bad sheet", BLANK, BAD_SHEET, 16},
+    {"order of refusals", "blank paper, null sheet", BLANK_SEQUENCES, NULL, 16},
+    {"order of refusals", "good paper, bad sheet", EXAMPLE, BAD_SHEET, 17},
+    {"limits", "1000 events, 64 sequences, 1000 answers", FULL, THOUSAND, MARK(03E8,03E8,0000,0000)},
+    {"limits", "998 answers over", EXAMPLE, THOUSAND, MARK(0002,0001,0000,03E6)},
+    {"limits", "1000 answers missing", FULL, NO_ANSWERS, MARK(03E8,0000,03E8,0000)},
+    {"limits", "1001 answers", FULL, "0001 03E9 0006 " ZERO16 "*1001:16 ", 17},
+    {"limits", "1001 events", "0001 03E9 000C 0040 4E40 5240 " TICKS("1001", "0040") SEQUENCES("64"), THOUSAND, 15},
+    {"limits", "65 sequences", "0001 03E8 000C 0041 4E2C 523C " TICKS("1000", "0040") SEQUENCES("65"), THOUSAND, 15},
+    {"limits", "65 of 64", "0001 03E8 000C 0040 4E2C 522C " TICKS("1000", "0041") SEQUENCES("64"), THOUSAND, 15},
+    {"limits", "blank, 64 sequences", "0001 0000 000C 0040 000C 040C " SEQUENCES("64"), NO_ANSWERS, 16},
+    {"limits", "blank, 65 sequences", "0001 0000 000C 0041 000C 041C " SEQUENCES("65"), NO_ANSWERS, 15},
+};
+
+static const struct {
+    const char *what, *paper, *key;
+    uint64_t length;
+} keys[] = {
+    {"the example's", EXAMPLE, EXAMPLE_KEY, 38},
+    {"two processes, a conflict", CONFLICT, CONFLICT_KEY, 166},
+    {"a trap", TRAP, TRAP_KEY, 134},
+    {"a tick that names a sequence", NAMES("02 00 0000", "0002 "), ONE_BLANK, 22},
+    {"the longest", FULL, THOUSAND, 16006},
+};
+
+/* Badpaper and blank come before anything about the sheet or the buffer. */
+static void check_no_key(const struct file *paper, uint64_t refusal)
+{
+    static const size_t room[] = {0, 5, 38, 16006};
+    struct file written;
+
+    for (size_t i = 0; i < 4; i++)
+        check("no key", key(paper, &(struct file){NULL, room[i], 0}, &written), refusal);
+}
+
+static void play_marks(void)
+{
+    for (size_t i = 0; i < sizeof marks / sizeof marks[0]; i++) {
+        struct file paper = hex(marks[i].paper, paper_store), sheet = hex(marks[i].sheet, sheet_store);
+
+        begin(marks[i].group);
+        check(marks[i].what, mark(&paper, &sheet), marks[i].mark);
+        if (marks[i].mark < BRINEFEATHER_BADSHEET)
+            check_no_key(&paper, marks[i].mark);
+    }
+}
+
+/* In every room: none (a null pointer too), one byte short, exactly its own, more. The longest not in all of them. */
+static void play_keys(void)
+{
+    begin("keys");
+    for (size_t i = 0; i < sizeof keys / sizeof keys[0]; i++) {
+        const struct file paper = hex(keys[i].paper, paper_store), wanted = hex(keys[i].key, wanted_store);
+        struct file written, room = {NULL, wanted.len < 200 ? 0 : wanted.len - 20, 0};
+
+        check("empty buffer", key(&paper, &(struct file){wanted_store, 0, 0}, &written), BRINEFEATHER_NOROOM);
+        for (; room.len < wanted.len; room.len++)
+            check("short of room", key(&paper, &room, &written), BRINEFEATHER_NOROOM);
+        for (; room.len < wanted.len + 20; room.len++) {
+            check(keys[i].what, key(&paper, &room, &written), keys[i].length);
+            check(keys[i].what, memcmp(written.bytes, wanted.bytes, wanted.len) == 0, 1);
+        }
+    }
+}
+
+static void flip(uint8_t *bytes, size_t bit)
+{
+    bytes[bit / 8] ^= (uint8_t)(1u << bit % 8);
+}
+
+static void wrong_bits(void)
+{
+    const struct file paper = hex(EXAMPLE, paper_store), sheet = hex(EXAMPLE_KEY, sheet_store);
+
+    begin("one bit of an answer wrong");
+    for (size_t bit = 8 * 6; bit < 8 * sheet.len; bit++) {
+        flip(sheet_store, bit);
+        check("of two", mark(&paper, &sheet), MARK(0002,0001,0000,0000));
+        flip(sheet_store, bit);
+    }
+}
+
+/* Every proper prefix, with the rest behind it; one byte over, and 65,536. */
+static void lengths(const char *name, const char *paper_text, const char *sheet_text, uint64_t refusal)
+{
+    struct file paper = hex(paper_text, paper_store), sheet = hex(sheet_text, sheet_store);
+    struct file *f = refusal == BRINEFEATHER_BADPAPER ? &paper : &sheet;
+    size_t whole = f->len;
+
+    begin(name);
+    for (size_t len = 0; len <= whole + 65536; len += len == whole + 1 ? 65535 : 1) {
+        if (len == whole)
+            continue;
+        f->len = len;
+        f->behind = len < whole ? whole - len : 0;
+        check("another length", mark(&paper, &sheet), refusal);
+        if (f == &paper)
+            check_no_key(&paper, refusal);
+    }
+}
+
+/* Each bit of a header counts, and what is no header and no sequence number is not layout. */
+static void flipped_bits(const char *name, const char *text, size_t events, uint64_t sound)
+{
+    const struct file paper = hex(text, paper_store), sheet = hex(NO_ANSWERS, sheet_store), room = {NULL, 166, 0};
+    struct file written;
+
+    begin(name);
+    for (size_t bit = 0; bit < 8 * paper.len; bit++) {
+        size_t at = bit / 8, in_event = at < 12 || at >= 12 + 20 * events ? 0 : (at - 12) % 20;
+        uint64_t m, k;
+
+        flip(paper_store, bit);
+        m = mark(&paper, &sheet);
+        k = key(&paper, &room, &written);
+        check("key by mark", k, brinefeather_refused(m) ? m : brinefeather_key_length(brinefeather_total(m)));
+        if (in_event < 18)
+            check("by its place", brinefeather_refused(m), at < 12 ? 15 : sound);
+        flip(paper_store, bit);
+    }
+}
+
+int main(void)
+{
+    taken_apart();
+    play_marks();
+    play_keys();
+    wrong_bits();
+    lengths("paper cut or lengthened", EXAMPLE, NO_ANSWERS, BRINEFEATHER_BADPAPER);
+    lengths("sheet cut or lengthened", EXAMPLE, NO_ANSWERS, BRINEFEATHER_BADSHEET);
+    lengths("key as sheet cut or lengthened", EXAMPLE, EXAMPLE_KEY, BRINEFEATHER_BADSHEET);
+    flipped_bits("one bit of the example flipped", EXAMPLE, 2, 0);
+    flipped_bits("one bit of a conflict flipped", CONFLICT, 10, 0);
+    flipped_bits("one bit of a blank paper flipped", BLANK_SEQUENCES, 0, BRINEFEATHER_BLANK);
+    begin("");
+    printf("desk: %u checks, %u wrong\n", checks, wrong);
+    return wrong != 0;
+}
