@@ -1,0 +1,96 @@
+-- One turn of the loops that play a paper: what is left is the place at hand, and what is left after it. Assumes nothing.
+use mathlib.Core.Path.{_≡_, refl, _∙_}
+use mathlib.Core.List.{List, [], _∷_, _++_, map, append-assoc, append-nil}
+use Prim.Native.Nat.{ℕ, zero, suc, _+_, _-_, _*_, _≤_, _<_}
+use native.Mathlib.Omega.{arith}
+use lib.ListN.{length, take, drop, length-drop, length-append}
+use lib.Seq.{take-all, take-at, drop-at, length-take-le, take-length, drop-length, drop-drop}
+use Rattle.rules.specs.Step.{stepOf}
+use Rattle.rules.specs.declared.state.State.{State}
+use Rattle.rules.specs.declared.state.Answer.{Answer}
+use Rattle.locks.specs.Lists.{isZero}
+use Rattle.locks.proofs.Tests.{picked}
+use Rattle.papers.specs.Bytes.{run}
+use Rattle.papers.specs.Layout.{eventCount, answerCount, paperFits, paperOf, sheetFits, sheetOf}
+use Rattle.papers.specs.declared.layout.Read.the-variants.{Count, Refused}
+use Rattle.papers.specs.Events.{eventAt, eventsFrom}
+use Rattle.papers.specs.Answers.{answerBytes, sheetHeader, placesFrom}
+use Rattle.marker.specs.Key.{answersFrom, joined}
+
+-- the places of the n - i events from the one at hand on
+abbrev pub left : State → List ℕ → ℕ → ℕ → List (List ℕ)
+left t p n i = map answerBytes (answersFrom t (eventsFrom p (12 + 20 * i) (n - i)))
+
+pub key-at : (t : State) (p : List ℕ) (n i : ℕ) → i < n
+    → (let r = stepOf t (eventAt p (12 + 20 * i)) in left t p n i ≡ answerBytes (r .answer) ∷ left (r .state) p n (i + 1))
+key-at t p n i h =
+    let e : n - i ≡ suc (n - (i + 1)) = omega arith in
+    let f : 12 + 20 * (i + 1) ≡ 12 + 20 * i + 20 = omega arith in
+    rw (e, f)
+
+pub sheet-at : (s : List ℕ) (n i : ℕ) → i < n
+    → placesFrom s (6 + 16 * i) (n - i) ≡ run s (6 + 16 * i) 16 ∷ placesFrom s (6 + 16 * (i + 1)) (n - (i + 1))
+sheet-at s n i h =
+    let e : n - i ≡ suc (n - (i + 1)) = omega arith in
+    let f : 6 + 16 * (i + 1) ≡ 6 + 16 * i + 16 = omega arith in
+    rw (e, f)
+
+pub bytes-length : (a : Answer) → length (answerBytes a) ≡ 16
+unfolding answerBytes
+bytes-length a = refl
+
+-- the count that reading a file finds is the one in its header
+pub paper-count : (p : List ℕ) (n : ℕ) → paperOf p ≡ Count n → n ≡ eventCount p
+unfolding paperOf
+paper-count p n e =
+    picked (λ r. r ≡ Count n → n ≡ eventCount p) (paperFits p)
+    (λ f. picked (λ r. r ≡ Count n → n ≡ eventCount p) (isZero (eventCount p)) (λ z d. absurd (other d)) (λ z d. cc))
+    (λ f d. absurd (other d)) e
+  where
+    other : {k : ℕ} → Refused k ≡ Count n → ⊥
+    other d = let z : _≡_ {A = ℕ} 0 1 = cc in omega arith
+
+pub sheet-count : (s : List ℕ) (n : ℕ) → sheetOf s ≡ Count n → n ≡ answerCount s
+unfolding sheetOf
+sheet-count s n e =
+    picked (λ r. r ≡ Count n → n ≡ answerCount s) (sheetFits s) (λ f d. cc) (λ f d. let z : _≡_ {A = ℕ} 0 1 = cc in absurd (omega arith)) e
+
+pub places-length : (t : State) (p : List ℕ) (at n : ℕ) → length (joined (map answerBytes (answersFrom t (eventsFrom p at n)))) ≡ 16 * n
+places-length t p at zero = refl
+places-length t p at (suc n) =
+    let r = stepOf t (eventAt p at) in
+    length-append (answerBytes (r .answer)) _ ∙ omega (arith, bytes-length (r .answer), places-length (r .state) p (at + 20) n)
+
+-- what `bytes::copy` leaves, of a run of n bytes
+pub copied : (x y o : List ℕ) (n : ℕ) → length x ≡ n → y ≡ take (length x) x ++ drop (length x) o → y ≡ x ++ drop n o
+copied x y o n l e = rw (take-length x, l) at e
+
+pub header-length : (n : ℕ) → length (sheetHeader n) ≡ 6
+unfolding sheetHeader
+header-length n = refl
+
+-- the tail of a buffer from `at` on comes back with e at its start
+module _ (o e y : List ℕ) (at n : ℕ) (h : at + n ≤ length o) (l : length e ≡ n)
+    (g : y ≡ e ++ drop n (take (length o - at) (drop at o))) where
+  pub whole : take at o ++ (y ++ drop (length o - at) (drop at o)) ≡ (take at o ++ e) ++ drop (at + n) o
+  whole =
+      let m : length (drop at o) ≤ length o - at = simp length-drop (omega arith) in
+      let k : length (drop at o) ≡ length o - at = length-drop at o in
+      rw (g, take-all (length o - at) (drop at o), ← k, drop-length, append-nil, drop-drop, append-assoc)
+
+  front : length (take at o ++ e) ≡ at + n
+  front = length-append (take at o) e ∙ rw (l, length-take-le at o (omega arith))
+
+  pub tail-take : take (at + n) (take at o ++ (y ++ drop (length o - at) (drop at o))) ≡ take at o ++ e
+  tail-take = rw whole (take-at (take at o ++ e) (drop (at + n) o) (at + n) front)
+
+  pub tail-drop : drop (at + n) (take at o ++ (y ++ drop (length o - at) (drop at o))) ≡ drop (at + n) o
+  tail-drop = rw whole (drop-at (take at o ++ e) (drop (at + n) o) (at + n) front)
+
+-- a header, then the rest
+pub key-put : (o o₁ h e y : List ℕ) (n : ℕ) → o₁ ≡ h ++ drop 6 o → length h ≡ 6 → length e ≡ n → 6 + n ≤ length o₁
+    → y ≡ e ++ drop n (take (length o₁ - 6) (drop 6 o₁)) → take 6 o₁ ++ (y ++ drop (length o₁ - 6) (drop 6 o₁)) ≡ h ++ e ++ drop (6 + n) o
+key-put o o₁ h e y n f lh le r g =
+    let t : take 6 o₁ ≡ h = rw f (take-at h (drop 6 o) 6 lh) in
+    let d : drop (6 + n) o₁ ≡ drop (6 + n) o = rw (f, ← drop-drop n 6 (h ++ drop 6 o), drop-at h (drop 6 o) 6 lh) (drop-drop n 6 o) in
+    whole o₁ e y 6 n r le g ∙ rw (t, d)

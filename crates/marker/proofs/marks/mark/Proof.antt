@@ -1,0 +1,91 @@
+-- `marker::marks::mark` meets its contract. Assumes nothing.
+use borrow.Author.Needs.{needs}
+use Rattle.marker.proofs.marks.mark.Statement.{statement}
+use Rattle.marker.proofs.marks.mark.Tie as tie
+use mathlib.Core.Path.{_≡_, sym, _∙_}
+use Rattle.rules.proofs.States.{sound-stays}
+use Rattle.papers.specs.Layout.{paperOf, sheetOf}
+use Rattle.papers.specs.declared.layout.Read.the-variants.{Count}
+use Rattle.marker.specs.Key.{keyPlaces}
+use Rattle.marker.specs.Mark.{marked}
+use Rattle.marker.proofs.Places.{right-least}
+use Rattle.marker.proofs.Turns.{paper-count, sheet-count}
+
+paper-requires : tie.Need-paper-requires
+paper-requires c κs = search needs
+
+enum-known-n : tie.Need-enum-known-n
+enum-known-n c = search needs
+
+enum-known-total : tie.Need-enum-known-total
+enum-known-total c = search needs
+
+sheet-requires : tie.Need-sheet-requires
+sheet-requires c κs = search needs
+
+enum-known-n-2 : tie.Need-enum-known-n-2
+enum-known-n-2 c = search needs
+
+enum-known-answers : tie.Need-enum-known-answers
+enum-known-answers c = search needs
+
+fresh-requires : tie.Need-fresh-requires
+fresh-requires c κs = search needs
+
+lesser-requires : tie.Need-lesser-requires
+lesser-requires c κs = search needs
+
+right-places-requires : tie.Need-right-places-requires
+right-places-requires c κs = rw (c .before .fresh .ensures) (sound-stays .first)
+
+above-requires : tie.Need-above-requires
+above-requires c κs = search needs
+
+above-requires-2 : tie.Need-above-requires-2
+above-requires-2 c κs = search needs
+
+returns : tie.Need-returns
+unfolding marked
+returns c = rw (← c .before .before .before .paper .ensures, c .before .n .given .1)
+
+returns-2 : tie.Need-returns-2
+unfolding marked
+returns-2 c = rw (← c .before .before .before .before .before .before .before .paper .ensures, c .before .before .before .before .before .total .given .1, ← c .before .before .before .sheet .ensures, c .before .n2 .given .1)
+
+returns-3 : tie.Need-returns-3
+unfolding marked keyPlaces
+returns-3 c =
+    let a = c .before .before .before .before .before .before .before .before .before .before .before .before .before .before .before .args in
+    let e = sym (c .before .before .before .before .before .before .before .before .before .before .before .before .paper .ensures) ∙ c .before .before .before .before .before .before .before .before .before .before .total .given .1 in
+    let f = sym (c .before .before .before .before .before .before .before .before .sheet .ensures) ∙ c .before .before .before .before .before .before .answers .given .1 in
+    rw (
+      e,
+      f,
+      ← paper-count (a .p .now) _ e,
+      ← sheet-count (a .s .now) _ f,
+      right-least,
+      c .before .before .right-places .ensures,
+      c .before .before .before .before .fresh .ensures,
+      c .before .before .before .lesser .ensures,
+      c .before .above .ensures,
+      c .above2 .ensures,
+    )
+
+pub mark-spec : {M : Type 1} → statement M
+mark-spec =
+    tie.close
+    (tie.spec
+    paper-requires
+    enum-known-n
+    enum-known-total
+    sheet-requires
+    enum-known-n-2
+    enum-known-answers
+    fresh-requires
+    lesser-requires
+    right-places-requires
+    above-requires
+    above-requires-2
+    returns
+    returns-2
+    returns-3)
