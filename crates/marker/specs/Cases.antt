@@ -1,0 +1,61 @@
+-- The worked cases of document 01, (a) to (l), as one table. Assumes nothing.
+use Prim.Native.Nat.{ℕ}
+use mathlib.Core.Path.{_≡_}
+use mathlib.Core.Bool.{Bool}
+use mathlib.Core.List.{List, [], _∷_, _++_, map}
+use lib.ListN.{replicate}
+use Rattle.rules.specs.declared.state.Answer.{Answer}
+use Rattle.rules.specs.Cases.{Case}
+use Rattle.rules.specs.Cases as rules
+use Rattle.papers.specs.Layout.{numberOf, badpaper, blank, badsheet}
+use Rattle.marker.specs.Mark.{marked}
+use Rattle.marker.specs.Promises.{blankSheet}
+use Rattle.marker.specs.declared.marks.Marked.{Marked}
+use Rattle.marker.specs.declared.marks.Marked.the-variants.{Mark, Refused}
+
+-- a case of events, or a paper, a sheet and its mark
+pub data Row : Type 0 where
+  played : Case → Row
+  handed : List ℕ → List ℕ → Marked → Row
+
+-- answers to events and a test of the machine after them, or a mark
+pub data Result : Type 0 where
+  answers : List Answer × Bool → Result
+  mark : Marked → Result
+
+abbrev pub comes : Row → Result
+comes (played c) = answers (rules.comes c)
+comes (handed paper sheet m) = mark (marked paper sheet)
+
+abbrev pub should : Row → Result
+should (played c) = answers (rules.should c)
+should (handed paper sheet m) = mark m
+
+-- "Paper `0001 0002 000C 0000 0034 0034`, then event `01 3A 0001` and sixteen zero bytes, then event `02` and nineteen zero bytes."
+abbrev pub examplePaper : List ℕ
+examplePaper =
+    0 ∷ 1 ∷ 0 ∷ 2 ∷ 0 ∷ 12 ∷ 0 ∷ 0 ∷ 0 ∷ 0x34 ∷ 0 ∷ 0x34
+    ∷ 1 ∷ 0x3A ∷ 0 ∷ 1 ∷ replicate 16 0
+    ++ 2 ∷ replicate 19 0
+
+-- a paper of a header alone
+abbrev noEvents : List ℕ
+noEvents = 0 ∷ 1 ∷ 0 ∷ 0 ∷ 0 ∷ 12 ∷ 0 ∷ 0 ∷ 0 ∷ 12 ∷ 0 ∷ 12 ∷ []
+
+unfoldable pub table : List Row
+table =
+    -- (a) to (k), the slips, and more: the table of the rules
+    map played rules.table
+    -- (l) blank sheet: right 0
+    ++ handed examplePaper blankSheet (Mark 2 0 2 0)
+    -- a paper without events, before the sheet is looked at; files that are empty, or one byte too long
+    ∷ handed noEvents blankSheet (Refused (numberOf blank))
+    ∷ handed noEvents [] (Refused (numberOf blank))
+    ∷ handed [] blankSheet (Refused (numberOf badpaper))
+    ∷ handed (examplePaper ++ 0 ∷ []) blankSheet (Refused (numberOf badpaper))
+    ∷ handed examplePaper [] (Refused (numberOf badsheet))
+    ∷ handed examplePaper (blankSheet ++ 0 ∷ []) (Refused (numberOf badsheet))
+    ∷ []
+
+abbrev pub WorkedCases : Type 0
+WorkedCases = map comes table ≡ map should table

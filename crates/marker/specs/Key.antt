@@ -1,0 +1,48 @@
+-- The key of a paper, and what writing it leaves. Assumes nothing.
+use Prim.Native.Nat.{ℕ, _+_, _*_}
+use mathlib.Core.Bool.{cond}
+use mathlib.Core.List.{List, [], _∷_, _++_, map}
+use lib.ListN.{length, drop}
+use lib.Dec.{ltb}
+use Rattle.rules.specs.State.{laid, fresh}
+use Rattle.rules.specs.Step.{stepOf}
+use Rattle.rules.specs.declared.state.State.{State}
+use Rattle.rules.specs.declared.state.Event.{Event}
+use Rattle.rules.specs.declared.state.Answer.{Answer}
+use Rattle.papers.specs.Layout.{numberOf, noroom, eventCount, paperOf}
+use Rattle.papers.specs.Events.{eventsOf}
+use Rattle.papers.specs.Answers.{answerBytes, sheetHeader}
+use Rattle.papers.specs.declared.layout.Read.{Read}
+use Rattle.papers.specs.declared.layout.Read.the-variants as read
+use Rattle.marker.specs.declared.keys.Keyed.{Keyed}
+use Rattle.marker.specs.declared.keys.Keyed.the-variants.{Written, Refused}
+
+-- "the model's to that event in the state the events before it left"
+abbrev pub answersFrom : State → List Event → List Answer
+answersFrom s [] = []
+answersFrom s (e ∷ es) = stepOf s e .answer ∷ answersFrom (stepOf s e .state) es
+
+-- "to the first in the fresh state": the answers' bytes, place by place
+unfoldable pub keyPlaces : List ℕ → List (List ℕ)
+keyPlaces p = map answerBytes (answersFrom (laid fresh) (eventsOf p))
+
+-- one after another
+abbrev pub joined : List (List ℕ) → List ℕ
+joined [] = []
+joined (x ∷ xs) = x ++ joined xs
+
+-- "A key is a sheet with one answer per event, in order"
+unfoldable pub keyOf : List ℕ → List ℕ
+keyOf p = sheetHeader (eventCount p) ++ joined (keyPlaces p)
+
+-- "noroom: key buffer shorter than 6 + 16 x events". "A refused key writes no byte; an accepted key writes exactly its length and nothing after."
+abbrev pub keyedFor : Read → List ℕ → List ℕ → Keyed × List ℕ
+keyedFor (read.Refused n) key buffer = (Refused n, buffer)
+keyedFor (read.Count n) key buffer =
+    cond (ltb (length buffer) (6 + 16 * n))
+    (Refused (numberOf noroom), buffer)
+    (Written (6 + 16 * n), key ++ drop (6 + 16 * n) buffer)
+
+-- "For files: badpaper, blank, then .. noroom when writing a key": the answer, and the buffer after it
+unfoldable pub keyed : List ℕ → List ℕ → Keyed × List ℕ
+keyed p buffer = keyedFor (paperOf p) (keyOf p) buffer

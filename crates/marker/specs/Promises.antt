@@ -1,0 +1,65 @@
+-- What is proved of keys and marks, for every paper, sheet and buffer. Assumes nothing.
+use Prim.Native.Nat.{ℕ, _+_, _*_, _≤_}
+use mathlib.Core.Path.{_≡_}
+use mathlib.Core.Bool.{true}
+use mathlib.Core.List.{List, [], _∷_}
+use mathlib.Core.Logic.{_↔_}
+use Rattle.papers.specs.Layout.{Refusal, numberOf, badpaper, blank, badsheet, noroom, eventCount, answerCount, paperFits, sheetFits}
+use Rattle.papers.specs.Answers.{placesOf}
+use Rattle.marker.specs.Key.{keyPlaces, keyOf, keyed}
+use Rattle.marker.specs.Mark.{marked, isPerfect}
+use Rattle.marker.specs.Desk.{markNumber, keyNumber}
+use Rattle.marker.specs.declared.keys.Keyed.{Keyed}
+use Rattle.marker.specs.declared.keys.Keyed.the-variants as key
+use Rattle.marker.specs.declared.marks.Marked.{Marked}
+use Rattle.marker.specs.declared.marks.Marked.the-variants as mark
+
+-- both files are laid out right, the paper has at least one event, the sheet has as many answers, and every answer's 16 bytes are the key's
+pub record AllRight (p s : List ℕ) : Type 0 where
+  pub paper : paperFits p ≡ true
+  pub sheet : sheetFits s ≡ true
+  pub some : 1 ≤ eventCount p
+  pub count : answerCount s ≡ eventCount p
+  pub bytes : placesOf s ≡ keyPlaces p
+
+-- "Full marks mean every event of a paper with at least one event was answered rightly, with no answer over."
+abbrev pub PerfectExact : Type 0
+PerfectExact = (p s : List ℕ) → (isPerfect (marked p s) ≡ true) ↔ AllRight p s
+
+-- "Sheet `0001 0000 0006`"
+abbrev pub blankSheet : List ℕ
+blankSheet = 0 ∷ 1 ∷ 0 ∷ 0 ∷ 0 ∷ 6 ∷ []
+
+-- (l) "blank sheet: right 0", of every paper that is not refused: and all is missing
+abbrev pub BlankNothing : Type 0
+BlankNothing = (p : List ℕ) → paperFits p ≡ true → 1 ≤ eventCount p → marked p blankSheet ≡ mark.Mark (eventCount p) 0 (eventCount p) 0
+
+-- the key of a paper that is not refused, handed in as a sheet, is perfect
+abbrev pub KeyPerfect : Type 0
+KeyPerfect = (p : List ℕ) → paperFits p ≡ true → 1 ≤ eventCount p → isPerfect (marked p (keyOf p)) ≡ true
+
+-- every mark is from the rules' list: counts in their ranges, or a refusal by 15, 16 or 17
+pub data MarkListed : Marked → Type 0 where
+  counts : (total right missing surplus : ℕ) → 1 ≤ total → total ≤ 1000 → right ≤ total → missing ≤ 1000 → surplus ≤ 1000
+      → MarkListed (mark.Mark total right missing surplus)
+  badPaper : MarkListed (mark.Refused (numberOf badpaper))
+  blankPaper : MarkListed (mark.Refused (numberOf blank))
+  badSheet : MarkListed (mark.Refused (numberOf badsheet))
+
+abbrev pub MarksListed : Type 0
+MarksListed = (p s : List ℕ) → MarkListed (marked p s)
+
+-- so is every answer to the writing of a key: the length for 1 to 1,000 events, or a refusal by 15, 16 or 18
+pub data KeyListed : Keyed → Type 0 where
+  writes : (n : ℕ) → 1 ≤ n → n ≤ 1000 → KeyListed (key.Written (6 + 16 * n))
+  badPaper : KeyListed (key.Refused (numberOf badpaper))
+  blankPaper : KeyListed (key.Refused (numberOf blank))
+  noRoom : KeyListed (key.Refused (numberOf noroom))
+
+abbrev pub KeysListed : Type 0
+KeysListed = (p buffer : List ℕ) → KeyListed (keyed p buffer .0)
+
+-- "the two never meet": who has the number has the outcome
+pub record NumbersDiffer : Type 0 where
+  pub marks : (p s q t : List ℕ) → markNumber (marked p s) ≡ markNumber (marked q t) → marked p s ≡ marked q t
+  pub keys : (p buffer q other : List ℕ) → keyNumber (keyed p buffer .0) ≡ keyNumber (keyed q other .0) → keyed p buffer .0 ≡ keyed q other .0

@@ -1,0 +1,71 @@
+// The key of a paper, written into a lent buffer.
+use model::advance;
+use model::fresh;
+use papers::answer_bytes;
+use papers::event;
+use papers::header;
+use papers::layout::Read;
+use papers::paper;
+use rules::state::Answer;
+use rules::state::State;
+ghost use mathlib.Core.Path.{_≡_};
+ghost use mathlib.Core.Bool.{true};
+ghost use mathlib.Core.List.{_++_, map};
+ghost use Prim.Native.Nat.{_*_, _≤_};
+ghost use lib.ListN.{length, drop};
+ghost use Rattle.rules.specs.Sound.{sound};
+ghost use Rattle.papers.specs.Events.{eventsFrom};
+ghost use Rattle.papers.specs.Answers.{answerBytes};
+ghost use Rattle.marker.specs.Key.{answersFrom, joined, keyed};
+
+const NOROOM: u8 = 18;
+
+// The key's length, or the number of the refusal.
+pub enum Keyed {
+    Written(usize),
+    Refused(u8),
+}
+
+// Puts an answer at the start of what is left of the key.
+fn put_answer(out: &mut [u8], a: Answer)
+    requires { ⌜ 16 ≤ length (now out) ⌝ }
+    ensures { λ _. ⌜ now (out .exit) ≡ answerBytes a ++ drop 16 (now (out .entry)) ⌝ }
+{
+    let record = answer_bytes(a);
+    bytes::copy(&record, out);
+}
+
+// Puts the answers to the paper's first n events, the first given in the state s, at the start of the key behind its header.
+fn put_answers(mut s: State, p: &[u8], n: u16, out: &mut [u8])
+    requires { ⌜ (sound s ≡ true) × (16 * n ≤ length (now out)) ⌝ }
+    ensures { λ _. ⌜ now (out .exit) ≡ joined (map answerBytes (answersFrom s (eventsFrom (now (p .entry)) 12 n))) ++ drop (16 * n) (now (out .entry)) ⌝ }
+{
+    let mut i: u16 = 0;
+    let mut at: usize = 0;
+    while i < n {
+        let r = advance(s, event(p, i));
+        put_answer(&mut out[at..], r.answer);
+        s = r.state;
+        at += 16;
+        i += 1;
+    }
+}
+
+// Writes the key of a paper: all of it, or no byte.
+pub fn key(p: &[u8], out: &mut [u8]) -> Keyed
+    ensures { λ r. ⌜ (r, now (out .exit)) ≡ keyed (now (p .entry)) (now (out .entry)) ⌝ }
+{
+    match paper(p) {
+        Read::Refused(n) => Keyed::Refused(n),
+        Read::Count(n) => {
+            let length = 6 + 16 * (n as usize);
+            if out.len() < length {
+                return Keyed::Refused(NOROOM);
+            }
+            let head = header(n);
+            bytes::copy(&head, out);
+            put_answers(fresh(), p, n, &mut out[6..]);
+            Keyed::Written(length)
+        }
+    }
+}

@@ -1,0 +1,97 @@
+// A sheet marked by its paper.
+use locks::rows::same_bytes;
+use model::advance;
+use model::fresh;
+use papers::answer_bytes;
+use papers::event;
+use papers::layout::Read;
+use papers::paper;
+use papers::place;
+use papers::sheet;
+use rules::state::State;
+ghost use mathlib.Core.Path.{_≡_};
+ghost use mathlib.Core.Bool.{true};
+ghost use mathlib.Core.List.{map};
+ghost use Prim.Native.Nat.{_-_, min};
+ghost use Rattle.rules.specs.Sound.{sound};
+ghost use Rattle.papers.specs.Events.{eventsFrom};
+ghost use Rattle.papers.specs.Answers.{answerBytes, placesFrom};
+ghost use Rattle.marker.specs.Key.{answersFrom};
+ghost use Rattle.marker.specs.Mark.{rightPlaces, marked, isPerfect};
+
+// What a sheet is worth, or the number of the refusal.
+pub enum Marked {
+    Mark {
+        total: u16,
+        right: u16,
+        missing: u16,
+        surplus: u16,
+    },
+    Refused(u8),
+}
+
+fn lesser(a: u16, b: u16) -> u16
+    ensures { λ r. ⌜ r ≡ min a b ⌝ }
+{
+    if a < b { a } else { b }
+}
+
+// What a is above b, if it is.
+fn above(a: u16, b: u16) -> u16
+    ensures { λ r. ⌜ r ≡ a - b ⌝ }
+{
+    if a < b { 0 } else { a - b }
+}
+
+// In how many of the first n places the sheet has the answer to the paper's event, the first given in the state s.
+fn right_places(mut s: State, p: &[u8], sheet: &[u8], n: u16) -> u16
+    requires { ⌜ sound s ≡ true ⌝ }
+    ensures { λ r. ⌜ r ≡ rightPlaces (map answerBytes (answersFrom s (eventsFrom (now (p .entry)) 12 n))) (placesFrom (now (sheet .entry)) 6 n) ⌝ }
+{
+    let mut right: u16 = 0;
+    let mut i: u16 = 0;
+    while i < n {
+        let r = advance(s, event(p, i));
+        if same_bytes(answer_bytes(r.answer), place(sheet, i), 16) {
+            right += 1;
+        }
+        s = r.state;
+        i += 1;
+    }
+    right
+}
+
+// Marks a sheet by its paper, which is played once, as far as the sheet has answers.
+pub fn mark(p: &[u8], s: &[u8]) -> Marked
+    ensures { λ r. ⌜ r ≡ marked (now (p .entry)) (now (s .entry)) ⌝ }
+{
+    match paper(p) {
+        Read::Refused(n) => Marked::Refused(n),
+        Read::Count(total) => match sheet(s) {
+            Read::Refused(n) => Marked::Refused(n),
+            Read::Count(answers) => {
+                Marked::Mark {
+                    total: total,
+                    right: right_places(fresh(), p, s, lesser(total, answers)),
+                    missing: above(total, answers),
+                    surplus: above(answers, total),
+                }
+            }
+        },
+    }
+}
+
+// Whether every event was answered rightly, with no answer over.
+pub fn perfect(m: Marked) -> bool
+    ensures { λ r. ⌜ r ≡ isPerfect m ⌝ }
+{
+    match m {
+        Marked::Refused(_) => false,
+        Marked::Mark {
+            total,
+            right,
+            missing: _,
+            surplus,
+        } => right == total && surplus == 0,
+    }
+}
