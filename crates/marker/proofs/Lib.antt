@@ -1,1 +1,3 @@
 pub mod Places
+pub mod Promises
+pub mod Cases
