@@ -36,7 +36,7 @@ most : (file : List ℕ) (at low high : ℕ) → field file at low high ≡ true
 unfolding field
 most file at low high h = leb-true _ _ (and-right (leb low (number16 file at)) _ h)
 
-paper-has : (p : List ℕ) → paperFits p ≡ true → Paper p
+pub paper-has : (p : List ℕ) → paperFits p ≡ true → Paper p
 unfolding paperFits headerFits
 paper-has p h = search (most, eqb-true, and-left, and-right) depth 7
 
