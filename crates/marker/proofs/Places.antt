@@ -1,8 +1,8 @@
 -- The places of a key and of a sheet. Assumes nothing.
 use Prim.Native.Nat.{ℕ, zero, suc, _+_, _*_, _≤_, min}
 use native.Mathlib.Omega.{arith}
-use mathlib.Core.Path.{_≡_, refl, sym, ap, _∙_}
-use mathlib.Core.Bool.{true, false, cond}
+use mathlib.Core.Path.{_≡_, refl, ap}
+use mathlib.Core.Bool.{true}
 use mathlib.Core.List.{List, [], _∷_, _++_, map, append-assoc}
 use lib.ListN.{length, length-append}
 use lib.Seq.{ext-getD}
@@ -25,18 +25,15 @@ use Rattle.marker.specs.Mark.{rightPlaces}
 
 -- ---- how many they are
 
-abbrev places : State → List ℕ → ℕ → ℕ → List (List ℕ)
-places s p at n = map answerBytes (answersFrom s (eventsFrom p at n))
-
-pub places-count : (s : State) (p : List ℕ) (at n : ℕ) → length (places s p at n) ≡ n
-places-count s p at zero = refl
-places-count s p at (suc n) = ap suc (places-count (stepOf s (eventAt p at) .state) p (at + 20) n)
+answers-count : (s : State) (p : List ℕ) (at n : ℕ) → length (map answerBytes (answersFrom s (eventsFrom p at n))) ≡ n
+answers-count s p at zero = refl
+answers-count s p at (suc n) = ap suc (answers-count (stepOf s (eventAt p at) .state) p (at + 20) n)
 
 pub key-count : (p : List ℕ) → length (keyPlaces p) ≡ eventCount p
 unfolding keyPlaces
-key-count p = places-count (laid fresh) p 12 (eventCount p)
+key-count p = answers-count (laid fresh) p 12 (eventCount p)
 
-pub sheet-count : (t : List ℕ) (from n : ℕ) → length (placesFrom t from n) ≡ n
+sheet-count : (t : List ℕ) (from n : ℕ) → length (placesFrom t from n) ≡ n
 sheet-count t from zero = refl
 sheet-count t from (suc n) = ap suc (sheet-count t (from + 16) n)
 
@@ -58,6 +55,9 @@ right-most (x ∷ xs) [] = omega arith
 right-most (x ∷ xs) (y ∷ ys) =
     let h = right-most xs ys in
     picked (λ n. n + rightPlaces xs ys ≤ min (suc (length xs)) (suc (length ys))) (agree 16 x y) (λ e. omega arith) (λ e. omega arith)
+
+pub right-fits : (p s : List ℕ) → rightPlaces (keyPlaces p) (placesOf s) ≤ min (eventCount p) (answerCount s)
+right-fits p s = rw (key-count p, sheet-count s 6 (answerCount s)) at (right-most (keyPlaces p) (placesOf s))
 
 agree-self : (x : List ℕ) → agree 16 x x ≡ true
 unfolding agree
@@ -82,9 +82,9 @@ right-all (a ∷ xs) t from (suc n) l h =
     (λ e. let r = rw e at h in rw (same a t from e, right-all xs t (from + 16) n (omega arith) (omega arith)))
     (λ e. let r = rw e at h in absurd (omega (arith, right-most (map answerBytes xs) (placesFrom t (from + 16) n))))
 
--- ---- the places of a key that is handed in xs a sheet
+-- ---- the places of a key that is handed in as a sheet
 
-joined-long : (xs : List Answer) → length (joined (map answerBytes xs)) ≡ 16 * length (map answerBytes xs)
+pub joined-long : (xs : List Answer) → length (joined (map answerBytes xs)) ≡ 16 * length (map answerBytes xs)
 joined-long [] = refl
 joined-long (a ∷ xs) = rw (length-append, answer-long a, joined-long xs) (omega arith)
 
@@ -94,10 +94,6 @@ places-joined h (a ∷ xs) =
     let e = rw (append-assoc, length-append, answer-long a) at (places-joined (h ++ answerBytes a) xs) in
     let f = rw (answer-long a) at (run-part h (answerBytes a) (joined (map answerBytes xs))) in
     rw (f, e)
-
-pub key-long : (p : List ℕ) → length (joined (keyPlaces p)) ≡ 16 * eventCount p
-unfolding keyPlaces
-key-long p = joined-long (answersFrom (laid fresh) (eventsOf p)) ∙ ap (λ n. 16 * n) (key-count p)
 
 pub key-places : (p : List ℕ) → placesOf (keyOf p) ≡ keyPlaces p
 unfolding keyOf keyPlaces

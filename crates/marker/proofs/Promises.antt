@@ -1,32 +1,31 @@
 -- What is promised of keys and marks. Assumes nothing.
-use Prim.Native.Nat.{ℕ, zero, suc, _+_, _-_, _*_, _≤_}
+use Prim.Native.Nat.{ℕ, _+_, _-_, _*_, _≤_}
 use native.Mathlib.Omega.{arith}
-use mathlib.Core.Path.{_≡_, refl, sym, ap, _∙_}
+use mathlib.Core.Path.{_≡_, refl, ap, _∙_}
 use mathlib.Core.Bool.{true, false≢true}
-use mathlib.Core.List.{List, [], _∷_}
-use lib.ListN.{length}
+use mathlib.Core.List.{List, []}
+use lib.ListN.{length, length-append}
 use lib.Dec.{eqb, ltb}
-use borrow.Author.Tests.{eqb-true, eq-eqb, ne-eqb, ltb-false}
+use borrow.Author.Tests.{eqb-true, eq-eqb, ltb-false}
 use Rattle.locks.specs.Lists.{isZero}
 use Rattle.locks.proofs.Tests.{picked, and-split}
 use Rattle.rules.specs.State.{laid, fresh}
 use Rattle.papers.specs.Bytes.{number16}
-use Rattle.papers.specs.Layout.{Refusal, numberOf, badpaper, blank, badsheet, noroom, field, eventCount, answerCount, paperFits, paperOf, sheetFits, sheetOf}
+use Rattle.papers.specs.Layout.{Refusal, numberOf, badpaper, blank, badsheet, noroom, field, eventCount, answerCount, sheetFits, sheetOf}
 use Rattle.papers.specs.Events.{eventsOf}
-use Rattle.papers.specs.Answers.{placesOf}
+use Rattle.papers.specs.Answers.{sheetHeader, placesOf}
 use Rattle.papers.specs.declared.layout.Read.{Read}
-use Rattle.papers.specs.declared.layout.Read.the-variants as read
-use Rattle.papers.proofs.Files.{Paper, Sheet, PaperRead, bad, none, some, SheetRead, paper-has, paper-read, sheet-read}
-use Rattle.papers.proofs.Sheets.{made-count, made-fits}
+use Rattle.papers.proofs.Files.{PaperRead, SheetRead, none, some, paper-has, paper-read, paper-counts, sheet-read, sheet-counts}
+use Rattle.papers.proofs.Sheets.{header-long, made-count, made-fits}
 use Rattle.marker.specs.Key.{answersFrom, keyPlaces, joined, keyOf, keyedFor, keyed}
 use Rattle.marker.specs.Mark.{rightPlaces, markedFor, marked, isPerfect}
 use Rattle.marker.specs.Desk.{markNumber, keyNumber}
-use Rattle.marker.specs.Promises.{AllRight, PerfectExact, blankSheet, BlankNothing, KeyPerfect, MarkListed, MarksListed, KeyListed, KeysListed, NumbersDiffer, counts, writes, refused}
+use Rattle.marker.specs.Promises.{AllRight, PerfectExact, BlankNothing, KeyLong, KeyPerfect, MarkListed, MarksListed, KeyListed, KeysListed, NumbersDiffer, counts, writes, refused}
 use Rattle.marker.specs.declared.keys.Keyed.{Keyed}
 use Rattle.marker.specs.declared.keys.Keyed.the-variants as key
 use Rattle.marker.specs.declared.marks.Marked.{Marked}
 use Rattle.marker.specs.declared.marks.Marked.the-variants as mark
-use Rattle.marker.proofs.Places.{key-count, sheet-count, right-most, right-self, right-all, key-long, key-places}
+use Rattle.marker.proofs.Places.{key-count, right-most, right-fits, right-self, right-all, joined-long, key-places}
 
 -- ---- full marks
 
@@ -35,37 +34,31 @@ unfolding marked keyPlaces
 perfect-right p s = go (paper-read p) (sheet-read s)
   where
     go : {x y : Read} → PaperRead p x → SheetRead s y → isPerfect (markedFor x y (rightPlaces (keyPlaces p) (placesOf s))) ≡ true → AllRight p s
-    go bad y e = absurd (false≢true e)
-    go none y e = absurd (false≢true e)
-    go (some f k) bad e = absurd (false≢true e)
+    go (none r l) y e = absurd (false≢true e)
+    go (some f k) none e = absurd (false≢true e)
     go (some f k) (some g) e =
         let t = and-split (eqb (rightPlaces (keyPlaces p) (placesOf s)) (eventCount p)) (isZero (answerCount s - eventCount p)) e in
         let n = key-count p in
-        let m = sheet-count s 6 (answerCount s) in
         record {
           paper = f .fits;
           sheet = g .fits;
           some = k;
-          count = omega (arith, eqb-true, right-most (keyPlaces p) (placesOf s));
+          count = omega (arith, eqb-true, right-fits p s);
           bytes = right-all (answersFrom (laid fresh) (eventsOf p)) s 6 (answerCount s) (omega (arith, eqb-true)) (omega (arith, eqb-true));
         }
-
-paper-some : (p : List ℕ) → paperFits p ≡ true → 1 ≤ eventCount p → paperOf p ≡ read.Count (eventCount p)
-unfolding paperOf
-paper-some p h k = rw (h, ne-eqb (eventCount p) 0 (λ z. omega arith))
-
-sheet-some : (s : List ℕ) → sheetFits s ≡ true → sheetOf s ≡ read.Count (answerCount s)
-unfolding sheetOf
-sheet-some s h = rw h
 
 right-perfect : (p s : List ℕ) → AllRight p s → isPerfect (marked p s) ≡ true
 unfolding marked
 right-perfect p s h =
     let n = eventCount p in
-    rw (paper-some p (h .paper) (h .some), sheet-some s (h .sheet), h .bytes, right-self (keyPlaces p), key-count p, h .count, eq-eqb n n refl, eq-eqb (n - n) 0 (omega arith))
+    rw (paper-counts p (h .paper) (h .some), sheet-counts s (h .sheet), h .bytes, right-self (keyPlaces p), key-count p, h .count, eq-eqb n n refl, eq-eqb (n - n) 0 (omega arith))
 
 pub perfect-exact : PerfectExact
 perfect-exact p s = (perfect-right p s, right-perfect p s)
+
+pub key-long : KeyLong
+unfolding keyOf keyPlaces
+key-long p = length-append (sheetHeader (eventCount p)) (joined (keyPlaces p)) ∙ omega (arith, header-long (eventCount p), joined-long (answersFrom (laid fresh) (eventsOf p)), key-count p)
 
 pub key-perfect : KeyPerfect
 unfolding keyOf
@@ -81,22 +74,13 @@ key-perfect p h k =
 
 -- ---- a blank sheet
 
-blank-none : placesOf blankSheet ≡ []
-unfolding number16
-blank-none = refl
-
-blank-fits : sheetFits blankSheet ≡ true
-unfolding sheetFits field number16
-blank-fits = refl
-
 pub blank-nothing : BlankNothing
-unfolding marked
+unfolding number16 field sheetFits sheetOf marked
 blank-nothing p h k =
-  let z : answerCount blankSheet ≡ 0 = sym (sheet-count blankSheet 6 (answerCount blankSheet)) ∙ ap length blank-none in
-  let r : rightPlaces (keyPlaces p) [] ≡ 0 = omega (arith, right-most (keyPlaces p) []) in
-  let n : eventCount p - 0 ≡ eventCount p = omega arith in
-  let m : 0 - eventCount p ≡ 0 = omega arith in
-  rw (paper-some p h k, sheet-some blankSheet blank-fits, blank-none, r, z, n, m)
+    let r : rightPlaces (keyPlaces p) [] ≡ 0 = omega (arith, right-most (keyPlaces p) []) in
+    let n : eventCount p - 0 ≡ eventCount p = omega arith in
+    let m : 0 - eventCount p ≡ 0 = omega arith in
+    rw (paper-counts p h k, r, n, m)
 
 -- ---- the lists
 
@@ -105,20 +89,18 @@ unfolding marked
 marks-listed p s = go (paper-read p) (sheet-read s)
   where
     go : {x y : Read} → PaperRead p x → SheetRead s y → MarkListed (markedFor x y (rightPlaces (keyPlaces p) (placesOf s)))
-    go bad y = refused badpaper (λ e. omega (arith, ap numberOf e))
-    go none y = refused blank (λ e. omega (arith, ap numberOf e))
-    go (some f k) bad = refused badsheet (λ e. omega (arith, ap numberOf e))
+    go (none r l) y = refused r (λ e. omega (arith, ap numberOf e))
+    go (some f k) none = refused badsheet (λ e. omega (arith, ap numberOf e))
     go (some f k) (some g) =
         counts (eventCount p) (rightPlaces (keyPlaces p) (placesOf s)) (eventCount p - answerCount s) (answerCount s - eventCount p) k (f .events)
-        (omega (arith, right-most (keyPlaces p) (placesOf s), key-count p, sheet-count s 6 (answerCount s))) (omega arith)
+        (omega (arith, right-fits p s)) (omega arith)
 
 pub keys-listed : KeysListed
 unfolding keyed
 keys-listed p buffer = go (paper-read p)
   where
     go : {x : Read} → PaperRead p x → KeyListed (length buffer) (keyedFor x (keyOf p) buffer .0)
-    go bad = refused badpaper (λ e. omega (arith, ap numberOf e))
-    go none = refused blank (λ e. omega (arith, ap numberOf e))
+    go (none r l) = refused r (λ e. omega (arith, ap numberOf e))
     go (some f k) =
         picked (λ (r : Keyed × List ℕ). KeyListed (length buffer) (r .0)) (ltb (length buffer) (6 + 16 * eventCount p)) (λ l. refused noroom (λ e. omega (arith, ap numberOf e)))
         (λ l. writes (eventCount p) k (f .events) (ltb-false _ _ l))

@@ -42,10 +42,12 @@ examplePaper =
 abbrev noEvents : List ℕ
 noEvents = 0 ∷ 1 ∷ 0 ∷ 0 ∷ 0 ∷ 12 ∷ 0 ∷ 0 ∷ 0 ∷ 12 ∷ 0 ∷ 12 ∷ []
 
-unfoldable pub files : List Row
-files =
+unfoldable pub table : List Row
+table =
+    -- (a) to (k), the slips, and more: the table of the rules
+    map played rules.table
     -- (l) blank sheet: right 0
-    handed examplePaper blankSheet (Mark 2 0 2 0)
+    ++ handed examplePaper blankSheet (Mark 2 0 2 0)
     -- a paper without events, before the sheet is looked at; files that are empty, or one byte too long
     ∷ handed noEvents blankSheet (Refused (numberOf blank))
     ∷ handed noEvents [] (Refused (numberOf blank))
@@ -54,10 +56,6 @@ files =
     ∷ handed examplePaper [] (Refused (numberOf badsheet))
     ∷ handed examplePaper (blankSheet ++ 0 ∷ []) (Refused (numberOf badsheet))
     ∷ []
-
--- (a) to (k), the slips, and more: the table of the rules; then those of files
-unfoldable pub table : List Row
-table = map played rules.table ++ files
 
 abbrev pub WorkedCases : Type 0
 WorkedCases = map comes table ≡ map should table

@@ -35,6 +35,10 @@ blankSheet = 0 ∷ 1 ∷ 0 ∷ 0 ∷ 0 ∷ 6 ∷ []
 abbrev pub BlankNothing : Type 0
 BlankNothing = (p : List ℕ) → paperFits p ≡ true → 1 ≤ eventCount p → marked p blankSheet ≡ mark.Mark (eventCount p) 0 (eventCount p) 0
 
+-- "an accepted key writes exactly its length": what `keyed` puts before the rest of the buffer is as long as it answers
+abbrev pub KeyLong : Type 0
+KeyLong = (p : List ℕ) → length (keyOf p) ≡ 6 + 16 * eventCount p
+
 -- the key of a paper that is not refused, handed in as a sheet, is perfect
 abbrev pub KeyPerfect : Type 0
 KeyPerfect = (p : List ℕ) → paperFits p ≡ true → 1 ≤ eventCount p → isPerfect (marked p (keyOf p)) ≡ true
