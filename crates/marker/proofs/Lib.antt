@@ -1,2 +1,4 @@
 pub mod Places
 pub mod Turns
+pub mod Promises
+pub mod Cases

@@ -1,23 +1,43 @@
 -- The places of a key and of a sheet. Assumes nothing.
 use Prim.Native.Nat.{ℕ, zero, suc, _+_, _*_, _≤_, min}
 use native.Mathlib.Omega.{arith}
-use mathlib.Core.Path.{_≡_}
-use mathlib.Core.List.{List, map}
-use lib.ListN.{length}
-use borrow.Author.Tests.{ltb-false}
-use lib.Dec.{ltb}
-use Rattle.locks.proofs.Tests.{picked}
-use Rattle.rules.specs.declared.state.State.{State}
+use mathlib.Core.Path.{_≡_, refl, ap}
+use mathlib.Core.Bool.{true}
+use mathlib.Core.List.{List, [], _∷_, _++_, map, append-assoc}
+use lib.ListN.{length, length-append}
+use lib.Seq.{ext-getD}
+use borrow.Author.Tests.{eq-eqb}
+use Rattle.locks.specs.Lists.{agree}
+use Rattle.locks.proofs.Tests.{cases, picked}
+use Rattle.soundness.proofs.Words.{agree-at}
+use Rattle.rules.specs.State.{laid, fresh}
 use Rattle.rules.specs.Step.{stepOf}
-use Rattle.papers.specs.Layout.{paperOf}
-use Rattle.papers.specs.Events.{eventAt, eventsFrom}
-use Rattle.papers.specs.Answers.{answerBytes, placesFrom}
-use Rattle.papers.specs.declared.layout.Read.{Read}
-use Rattle.papers.specs.declared.layout.Read.the-variants as read
-use Rattle.marker.specs.Key.{answersFrom, keyOf, keyedFor, keyed}
+use Rattle.rules.specs.declared.state.State.{State}
+use Rattle.rules.specs.declared.state.Answer.{Answer}
+use Rattle.papers.specs.Bytes.{run}
+use Rattle.papers.specs.Layout.{eventCount, answerCount}
+use Rattle.papers.specs.Events.{eventAt, eventsFrom, eventsOf}
+use Rattle.papers.specs.Answers.{answerBytes, sheetHeader, placesFrom, placesOf}
+use Rattle.papers.proofs.Runs.{run-part}
+use Rattle.papers.proofs.Sheets.{header-long, answer-long, made-count}
+use Rattle.marker.specs.Key.{answersFrom, keyPlaces, joined, keyOf}
 use Rattle.marker.specs.Mark.{rightPlaces}
-use Rattle.marker.specs.declared.keys.Keyed.{Keyed}
-use Rattle.marker.specs.declared.keys.Keyed.the-variants.{Written}
+
+-- ---- how many they are
+
+pub answers-count : (s : State) (p : List ℕ) (at n : ℕ) → length (map answerBytes (answersFrom s (eventsFrom p at n))) ≡ n
+answers-count s p at zero = refl
+answers-count s p at (suc n) = ap suc (answers-count (stepOf s (eventAt p at) .state) p (at + 20) n)
+
+pub key-count : (p : List ℕ) → length (keyPlaces p) ≡ eventCount p
+unfolding keyPlaces
+key-count p = answers-count (laid fresh) p 12 (eventCount p)
+
+sheet-count : (t : List ℕ) (from n : ℕ) → length (placesFrom t from n) ≡ n
+sheet-count t from zero = refl
+sheet-count t from (suc n) = ap suc (sheet-count t (from + 16) n)
+
+-- ---- how many are right
 
 -- places that only one of the two has are not right
 pub right-least : (s : State) (p t : List ℕ) (at from n a : ℕ)
@@ -29,13 +49,54 @@ right-least s p t at from (suc n) (suc a) =
     let e : min (suc n) (suc a) ≡ suc (min n a) = omega arith in
     rw (e, right-least (stepOf s (eventAt p at) .state) p t (at + 20) (from + 16) n a)
 
--- a key that is written lies within the buffer
-pub key-within : (p buffer : List ℕ) (n : ℕ) → keyed p buffer .0 ≡ Written n → n ≤ length buffer
-unfolding keyed
-key-within p buffer n = go (paperOf p)
-  where
-    go : (r : Read) → keyedFor r (keyOf p) buffer .0 ≡ Written n → n ≤ length buffer
-    go (read.Refused k) e = let z : _≡_ {A = ℕ} 0 1 = cc in absurd (omega arith)
-    go (read.Count m) e =
-        picked (λ (k : Keyed × List ℕ). k .0 ≡ Written n → n ≤ length buffer) (ltb (length buffer) (6 + 16 * m)) (λ h d. let z : _≡_ {A = ℕ} 0 1 = cc in absurd (omega arith))
-        (λ h d. let z : n ≡ 6 + 16 * m = cc in omega (arith, ltb-false)) e
+pub right-most : (xs ys : List (List ℕ)) → rightPlaces xs ys ≤ min (length xs) (length ys)
+right-most [] ys = omega arith
+right-most (x ∷ xs) [] = omega arith
+right-most (x ∷ xs) (y ∷ ys) =
+    let h = right-most xs ys in
+    picked (λ n. n + rightPlaces xs ys ≤ min (suc (length xs)) (suc (length ys))) (agree 16 x y) (λ e. omega arith) (λ e. omega arith)
+
+pub right-fits : (p s : List ℕ) → rightPlaces (keyPlaces p) (placesOf s) ≤ min (eventCount p) (answerCount s)
+right-fits p s = rw (key-count p, sheet-count s 6 (answerCount s)) at (right-most (keyPlaces p) (placesOf s))
+
+agree-self : (x : List ℕ) → agree 16 x x ≡ true
+unfolding agree
+agree-self x = simp eq-eqb
+
+pub right-self : (xs : List (List ℕ)) → rightPlaces xs xs ≡ length xs
+right-self [] = refl
+right-self (x ∷ xs) = rw (agree-self x, right-self xs) (omega arith)
+
+same : (a : Answer) (t : List ℕ) (from : ℕ) → agree 16 (answerBytes a) (run t from 16) ≡ true → answerBytes a ≡ run t from 16
+unfolding answerBytes
+same a t from e = ext-getD 0 (answerBytes a) (run t from 16) refl (agree-at 16 (answerBytes a) (run t from 16) e)
+
+-- where all are right, they are the same
+pub right-all : (xs : List Answer) (t : List ℕ) (from n : ℕ) → n ≤ length (map answerBytes xs) → rightPlaces (map answerBytes xs) (placesFrom t from n) ≡ length (map answerBytes xs)
+    → placesFrom t from n ≡ map answerBytes xs
+right-all [] t from zero l h = refl
+right-all [] t from (suc n) l h = absurd (omega arith)
+right-all (a ∷ xs) t from zero l h = absurd (omega arith)
+right-all (a ∷ xs) t from (suc n) l h =
+    cases (agree 16 (answerBytes a) (run t from 16))
+    (λ e. let r = rw e at h in rw (same a t from e, right-all xs t (from + 16) n (omega arith) (omega arith)))
+    (λ e. let r = rw e at h in absurd (omega (arith, right-most (map answerBytes xs) (placesFrom t (from + 16) n))))
+
+-- ---- the places of a key that is handed in as a sheet
+
+pub joined-long : (xs : List Answer) → length (joined (map answerBytes xs)) ≡ 16 * length (map answerBytes xs)
+joined-long [] = refl
+joined-long (a ∷ xs) = rw (length-append, answer-long a, joined-long xs) (omega arith)
+
+places-joined : (h : List ℕ) (xs : List Answer) → placesFrom (h ++ joined (map answerBytes xs)) (length h) (length (map answerBytes xs)) ≡ map answerBytes xs
+places-joined h [] = refl
+places-joined h (a ∷ xs) =
+    let e = rw (append-assoc, length-append, answer-long a) at (places-joined (h ++ answerBytes a) xs) in
+    let f = rw (answer-long a) at (run-part h (answerBytes a) (joined (map answerBytes xs))) in
+    rw (f, e)
+
+pub key-places : (p : List ℕ) → placesOf (keyOf p) ≡ keyPlaces p
+unfolding keyOf keyPlaces
+key-places p =
+    let e = rw (key-count p, header-long (eventCount p)) at (places-joined (sheetHeader (eventCount p)) (answersFrom (laid fresh) (eventsOf p))) in
+    rw (made-count (eventCount p) (joined (keyPlaces p))) e

@@ -35,39 +35,9 @@ sheet-at s n i h =
     let f : 6 + 16 * (i + 1) ≡ 6 + 16 * i + 16 = omega arith in
     rw (e, f)
 
-pub bytes-length : (a : Answer) → length (answerBytes a) ≡ 16
-unfolding answerBytes
-bytes-length a = refl
-
--- the count that reading a file finds is the one in its header
-pub paper-count : (p : List ℕ) (n : ℕ) → paperOf p ≡ Count n → n ≡ eventCount p
-unfolding paperOf
-paper-count p n e =
-    picked (λ r. r ≡ Count n → n ≡ eventCount p) (paperFits p)
-    (λ f. picked (λ r. r ≡ Count n → n ≡ eventCount p) (isZero (eventCount p)) (λ z d. absurd (other d)) (λ z d. cc))
-    (λ f d. absurd (other d)) e
-  where
-    other : {k : ℕ} → Refused k ≡ Count n → ⊥
-    other d = let z : _≡_ {A = ℕ} 0 1 = cc in omega arith
-
-pub sheet-count : (s : List ℕ) (n : ℕ) → sheetOf s ≡ Count n → n ≡ answerCount s
-unfolding sheetOf
-sheet-count s n e =
-    picked (λ r. r ≡ Count n → n ≡ answerCount s) (sheetFits s) (λ f d. cc) (λ f d. let z : _≡_ {A = ℕ} 0 1 = cc in absurd (omega arith)) e
-
-pub places-length : (t : State) (p : List ℕ) (at n : ℕ) → length (joined (map answerBytes (answersFrom t (eventsFrom p at n)))) ≡ 16 * n
-places-length t p at zero = refl
-places-length t p at (suc n) =
-    let r = stepOf t (eventAt p at) in
-    length-append (answerBytes (r .answer)) _ ∙ omega (arith, bytes-length (r .answer), places-length (r .state) p (at + 20) n)
-
 -- what `bytes::copy` leaves, of a run of n bytes
 pub copied : (x y o : List ℕ) (n : ℕ) → length x ≡ n → y ≡ take (length x) x ++ drop (length x) o → y ≡ x ++ drop n o
 copied x y o n l e = rw (take-length x, l) at e
-
-pub header-length : (n : ℕ) → length (sheetHeader n) ≡ 6
-unfolding sheetHeader
-header-length n = refl
 
 -- the tail of a buffer from `at` on comes back with e at its start
 module _ (o e y : List ℕ) (at n : ℕ) (h : at + n ≤ length o) (l : length e ≡ n)

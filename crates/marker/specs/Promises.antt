@@ -3,8 +3,9 @@ use Prim.Native.Nat.{ℕ, _+_, _*_, _≤_}
 use mathlib.Core.Path.{_≡_}
 use mathlib.Core.Bool.{true}
 use mathlib.Core.List.{List, [], _∷_}
-use mathlib.Core.Logic.{_↔_}
-use Rattle.papers.specs.Layout.{Refusal, numberOf, badpaper, blank, badsheet, noroom, eventCount, answerCount, paperFits, sheetFits}
+use mathlib.Core.Logic.{_↔_, _≢_}
+use lib.ListN.{length}
+use Rattle.papers.specs.Layout.{Refusal, numberOf, badsheet, noroom, eventCount, answerCount, paperFits, sheetFits}
 use Rattle.papers.specs.Answers.{placesOf}
 use Rattle.marker.specs.Key.{keyPlaces, keyOf, keyed}
 use Rattle.marker.specs.Mark.{marked, isPerfect}
@@ -34,30 +35,29 @@ blankSheet = 0 ∷ 1 ∷ 0 ∷ 0 ∷ 0 ∷ 6 ∷ []
 abbrev pub BlankNothing : Type 0
 BlankNothing = (p : List ℕ) → paperFits p ≡ true → 1 ≤ eventCount p → marked p blankSheet ≡ mark.Mark (eventCount p) 0 (eventCount p) 0
 
+-- "an accepted key writes exactly its length": what `keyed` puts before the rest of the buffer is as long as it answers
+abbrev pub KeyLong : Type 0
+KeyLong = (p : List ℕ) → length (keyOf p) ≡ 6 + 16 * eventCount p
+
 -- the key of a paper that is not refused, handed in as a sheet, is perfect
 abbrev pub KeyPerfect : Type 0
 KeyPerfect = (p : List ℕ) → paperFits p ≡ true → 1 ≤ eventCount p → isPerfect (marked p (keyOf p)) ≡ true
 
 -- every mark is from the rules' list: counts in their ranges, or a refusal by 15, 16 or 17
 pub data MarkListed : Marked → Type 0 where
-  counts : (total right missing surplus : ℕ) → 1 ≤ total → total ≤ 1000 → right ≤ total → missing ≤ 1000 → surplus ≤ 1000
-      → MarkListed (mark.Mark total right missing surplus)
-  badPaper : MarkListed (mark.Refused (numberOf badpaper))
-  blankPaper : MarkListed (mark.Refused (numberOf blank))
-  badSheet : MarkListed (mark.Refused (numberOf badsheet))
+  counts : (total right missing surplus : ℕ) → 1 ≤ total → total ≤ 1000 → right + missing ≤ total → surplus ≤ 1000 → MarkListed (mark.Mark total right missing surplus)
+  refused : (r : Refusal) → r ≢ noroom → MarkListed (mark.Refused (numberOf r))
 
 abbrev pub MarksListed : Type 0
 MarksListed = (p s : List ℕ) → MarkListed (marked p s)
 
--- so is every answer to the writing of a key: the length for 1 to 1,000 events, or a refusal by 15, 16 or 18
-pub data KeyListed : Keyed → Type 0 where
-  writes : (n : ℕ) → 1 ≤ n → n ≤ 1000 → KeyListed (key.Written (6 + 16 * n))
-  badPaper : KeyListed (key.Refused (numberOf badpaper))
-  blankPaper : KeyListed (key.Refused (numberOf blank))
-  noRoom : KeyListed (key.Refused (numberOf noroom))
+-- so is every answer to the writing of a key: the length for 1 to 1,000 events, which the buffer has room for, or a refusal by 15, 16 or 18
+pub data KeyListed (room : ℕ) : Keyed → Type 0 where
+  writes : (n : ℕ) → 1 ≤ n → n ≤ 1000 → 6 + 16 * n ≤ room → KeyListed room (key.Written (6 + 16 * n))
+  refused : (r : Refusal) → r ≢ badsheet → KeyListed room (key.Refused (numberOf r))
 
 abbrev pub KeysListed : Type 0
-KeysListed = (p buffer : List ℕ) → KeyListed (keyed p buffer .0)
+KeysListed = (p buffer : List ℕ) → KeyListed (length buffer) (keyed p buffer .0)
 
 -- "the two never meet": who has the number has the outcome
 pub record NumbersDiffer : Type 0 where

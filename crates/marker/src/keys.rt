@@ -11,11 +11,13 @@ use rules::state::State;
 ghost use mathlib.Core.Path.{_≡_};
 ghost use mathlib.Core.Bool.{true};
 ghost use mathlib.Core.List.{_++_, map};
-ghost use Prim.Native.Nat.{_*_, _≤_};
+ghost use Prim.Native.Nat.{_+_, _*_, _≤_};
 ghost use lib.ListN.{length, drop};
+ghost use Rattle.rules.specs.State.{laid};
+ghost use Rattle.rules.specs.State.{fresh as State·fresh};
 ghost use Rattle.rules.specs.Sound.{sound};
 ghost use Rattle.papers.specs.Events.{eventsFrom};
-ghost use Rattle.papers.specs.Answers.{answerBytes};
+ghost use Rattle.papers.specs.Answers.{answerBytes, sheetHeader};
 ghost use Rattle.marker.specs.Key.{answersFrom, joined, keyed};
 
 const NOROOM: u8 = 18;
@@ -51,6 +53,16 @@ fn put_answers(mut s: State, p: &[u8], n: u16, out: &mut [u8])
     }
 }
 
+// Writes the header and the answers to the paper's first n events.
+fn put_key(p: &[u8], n: u16, out: &mut [u8])
+    requires { ⌜ 6 + 16 * n ≤ length (now out) ⌝ }
+    ensures { λ _. ⌜ now (out .exit) ≡ sheetHeader n ++ joined (map answerBytes (answersFrom (laid State·fresh) (eventsFrom (now (p .entry)) 12 n))) ++ drop (6 + 16 * n) (now (out .entry)) ⌝ }
+{
+    let head = header(n);
+    bytes::copy(&head, out);
+    put_answers(fresh(), p, n, &mut out[6..]);
+}
+
 // Writes the key of a paper: all of it, or no byte.
 pub fn key(p: &[u8], out: &mut [u8]) -> Keyed
     ensures { λ r. ⌜ (r, now (out .exit)) ≡ keyed (now (p .entry)) (now (out .entry)) ⌝ }
@@ -62,9 +74,7 @@ pub fn key(p: &[u8], out: &mut [u8]) -> Keyed
             if out.len() < length {
                 return Keyed::Refused(NOROOM);
             }
-            let head = header(n);
-            bytes::copy(&head, out);
-            put_answers(fresh(), p, n, &mut out[6..]);
+            put_key(p, n, out);
             Keyed::Written(length)
         }
     }

@@ -2,3 +2,4 @@ pub mod Bytes
 pub mod Layout
 pub mod Events
 pub mod Answers
+pub mod Promises

@@ -4,7 +4,8 @@ use Rattle.marker.proofs.keys.put_answer.Statement.{statement}
 use Rattle.marker.proofs.keys.put_answer.Tie as tie
 use mathlib.Core.Path.{_≡_}
 use lib.ListN.{length}
-use Rattle.marker.proofs.Turns.{bytes-length, copied}
+use Rattle.papers.proofs.Sheets.{answer-long}
+use Rattle.marker.proofs.Turns.{copied}
 
 answer-bytes-requires : tie.Need-answer-bytes-requires
 answer-bytes-requires c κs = search needs
@@ -22,7 +23,7 @@ returns : tie.Need-returns
 returns c =
     let a = c .before .before .before .before .before .before .before .args in
     let b = c .before .before .before .before .before .answer-bytes in
-    let l : length (b .result) ≡ 16 = rw (b .ensures) (bytes-length (a .a)) in
+    let l : length (b .result) ≡ 16 = rw (b .ensures) (answer-long (a .a)) in
     rw (← b .ensures) (copied (b .result) _ (a .out .now) 16 l (c .before .before .copy .ensures .1))
 
 pub put-answer-spec : {M : Type 1} → statement M

@@ -12,7 +12,8 @@ use lib.Seq.{drop-drop}
 use Rattle.rules.specs.Sound.{sound}
 use Rattle.papers.specs.Answers.{answerBytes}
 use Rattle.marker.specs.Key.{joined}
-use Rattle.marker.proofs.Turns.{left, key-at, bytes-length, tail-take, tail-drop}
+use Rattle.papers.proofs.Sheets.{answer-long}
+use Rattle.marker.proofs.Turns.{left, key-at, tail-take, tail-drop}
 
 -- what is written, and what is left of the answers and of the buffer
 abbrev Inv-loop : tie.InvT-loop
@@ -62,7 +63,7 @@ loop-again c =
     let t = c .before .before .before .before .before .before .before .loop-test .taken in
     let q = c .before .before .before .before .before .before .before .before .before .before .before .pre .1 in
     let h : l .at + 16 ≤ length (l .out) = omega arith in
-    let k : length e ≡ 16 = bytes-length (r .result .answer) in (
+    let k : length e ≡ 16 = answer-long (r .result .answer) in (
       search needs,
       search needs,
       r .ensures .1,

@@ -6,10 +6,10 @@ use mathlib.Core.Path.{_≡_, sym, _∙_}
 use Rattle.rules.proofs.States.{sound-stays}
 use Rattle.papers.specs.Layout.{paperOf, sheetOf}
 use Rattle.papers.specs.declared.layout.Read.the-variants.{Count}
+use Rattle.papers.proofs.Files.{paper-count, sheet-count}
 use Rattle.marker.specs.Key.{keyPlaces}
 use Rattle.marker.specs.Mark.{marked}
 use Rattle.marker.proofs.Places.{right-least}
-use Rattle.marker.proofs.Turns.{paper-count, sheet-count}
 
 paper-requires : tie.Need-paper-requires
 paper-requires c κs = search needs

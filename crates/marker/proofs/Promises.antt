@@ -1,0 +1,145 @@
+-- What is promised of keys and marks. Assumes nothing.
+use Prim.Native.Nat.{ℕ, _+_, _-_, _*_, _≤_}
+use native.Mathlib.Omega.{arith}
+use mathlib.Core.Path.{_≡_, refl, ap, _∙_}
+use mathlib.Core.Bool.{true, false≢true}
+use mathlib.Core.List.{List, []}
+use lib.ListN.{length, length-append}
+use lib.Dec.{eqb, ltb}
+use borrow.Author.Tests.{eqb-true, eq-eqb, ltb-false}
+use Rattle.locks.specs.Lists.{isZero}
+use Rattle.locks.proofs.Tests.{picked, and-split}
+use Rattle.rules.specs.State.{laid, fresh}
+use Rattle.papers.specs.Bytes.{number16}
+use Rattle.papers.specs.Layout.{Refusal, numberOf, badpaper, blank, badsheet, noroom, field, eventCount, answerCount, sheetFits, sheetOf}
+use Rattle.papers.specs.Events.{eventsOf}
+use Rattle.papers.specs.Answers.{sheetHeader, placesOf}
+use Rattle.papers.specs.declared.layout.Read.{Read}
+use Rattle.papers.proofs.Files.{PaperRead, SheetRead, none, some, paper-has, paper-read, paper-counts, sheet-read, sheet-counts}
+use Rattle.papers.proofs.Sheets.{header-long, made-count, made-fits}
+use Rattle.marker.specs.Key.{answersFrom, keyPlaces, joined, keyOf, keyedFor, keyed}
+use Rattle.marker.specs.Mark.{rightPlaces, markedFor, marked, isPerfect}
+use Rattle.marker.specs.Desk.{markNumber, keyNumber}
+use Rattle.marker.specs.Promises.{AllRight, PerfectExact, BlankNothing, KeyLong, KeyPerfect, MarkListed, MarksListed, KeyListed, KeysListed, NumbersDiffer, counts, writes, refused}
+use Rattle.marker.specs.declared.keys.Keyed.{Keyed}
+use Rattle.marker.specs.declared.keys.Keyed.the-variants as key
+use Rattle.marker.specs.declared.marks.Marked.{Marked}
+use Rattle.marker.specs.declared.marks.Marked.the-variants as mark
+use Rattle.marker.proofs.Places.{key-count, right-most, right-fits, right-self, right-all, joined-long, key-places}
+
+-- ---- full marks
+
+perfect-right : (p s : List ℕ) → isPerfect (marked p s) ≡ true → AllRight p s
+unfolding marked keyPlaces
+perfect-right p s = go (paper-read p) (sheet-read s)
+  where
+    go : {x y : Read} → PaperRead p x → SheetRead s y → isPerfect (markedFor x y (rightPlaces (keyPlaces p) (placesOf s))) ≡ true → AllRight p s
+    go (none r l) y e = absurd (false≢true e)
+    go (some f k) none e = absurd (false≢true e)
+    go (some f k) (some g) e =
+        let t = and-split (eqb (rightPlaces (keyPlaces p) (placesOf s)) (eventCount p)) (isZero (answerCount s - eventCount p)) e in
+        let n = key-count p in
+        record {
+          paper = f .fits;
+          sheet = g .fits;
+          some = k;
+          count = omega (arith, eqb-true, right-fits p s);
+          bytes = right-all (answersFrom (laid fresh) (eventsOf p)) s 6 (answerCount s) (omega (arith, eqb-true)) (omega (arith, eqb-true));
+        }
+
+right-perfect : (p s : List ℕ) → AllRight p s → isPerfect (marked p s) ≡ true
+unfolding marked
+right-perfect p s h =
+    let n = eventCount p in
+    rw (paper-counts p (h .paper) (h .some), sheet-counts s (h .sheet), h .bytes, right-self (keyPlaces p), key-count p, h .count, eq-eqb n n refl, eq-eqb (n - n) 0 (omega arith))
+
+pub perfect-exact : PerfectExact
+perfect-exact p s = (perfect-right p s, right-perfect p s)
+
+pub key-long : KeyLong
+unfolding keyOf keyPlaces
+key-long p = length-append (sheetHeader (eventCount p)) (joined (keyPlaces p)) ∙ omega (arith, header-long (eventCount p), joined-long (answersFrom (laid fresh) (eventsOf p)), key-count p)
+
+pub key-perfect : KeyPerfect
+unfolding keyOf
+key-perfect p h k =
+    let r = joined (keyPlaces p) in
+    right-perfect p (keyOf p) record {
+      paper = h;
+      sheet = made-fits (eventCount p) r (paper-has p h .events) (key-long p);
+      some = k;
+      count = made-count (eventCount p) r;
+      bytes = key-places p;
+    }
+
+-- ---- a blank sheet
+
+pub blank-nothing : BlankNothing
+unfolding number16 field sheetFits sheetOf marked
+blank-nothing p h k =
+    let r : rightPlaces (keyPlaces p) [] ≡ 0 = omega (arith, right-most (keyPlaces p) []) in
+    let n : eventCount p - 0 ≡ eventCount p = omega arith in
+    let m : 0 - eventCount p ≡ 0 = omega arith in
+    rw (paper-counts p h k, r, n, m)
+
+-- ---- the lists
+
+pub marks-listed : MarksListed
+unfolding marked
+marks-listed p s = go (paper-read p) (sheet-read s)
+  where
+    go : {x y : Read} → PaperRead p x → SheetRead s y → MarkListed (markedFor x y (rightPlaces (keyPlaces p) (placesOf s)))
+    go (none r l) y = refused r (λ e. omega (arith, ap numberOf e))
+    go (some f k) none = refused badsheet (λ e. omega (arith, ap numberOf e))
+    go (some f k) (some g) =
+        counts (eventCount p) (rightPlaces (keyPlaces p) (placesOf s)) (eventCount p - answerCount s) (answerCount s - eventCount p) k (f .events)
+        (omega (arith, right-fits p s)) (omega arith)
+
+pub keys-listed : KeysListed
+unfolding keyed
+keys-listed p buffer = go (paper-read p)
+  where
+    go : {x : Read} → PaperRead p x → KeyListed (length buffer) (keyedFor x (keyOf p) buffer .0)
+    go (none r l) = refused r (λ e. omega (arith, ap numberOf e))
+    go (some f k) =
+        picked (λ (r : Keyed × List ℕ). KeyListed (length buffer) (r .0)) (ltb (length buffer) (6 + 16 * eventCount p)) (λ l. refused noroom (λ e. omega (arith, ap numberOf e)))
+        (λ l. writes (eventCount p) k (f .events) (ltb-false _ _ l))
+
+-- a key that is written lies within the buffer
+pub key-within : (p buffer : List ℕ) (n : ℕ) → keyed p buffer .0 ≡ key.Written n → n ≤ length buffer
+key-within p buffer n = go (keys-listed p buffer)
+  where
+    go : {k : Keyed} → KeyListed (length buffer) k → k ≡ key.Written n → n ≤ length buffer
+    go (writes m a b l) e = let z : n ≡ 6 + 16 * m = cc in omega arith
+    go (refused r d) e = let z : _≡_ {A = ℕ} 0 1 = cc in absurd (omega arith)
+
+-- ---- the numbers for the desk
+
+small : (r : Refusal) → numberOf r ≤ 18
+small badpaper = omega arith
+small blank = omega arith
+small badsheet = omega arith
+small noroom = omega arith
+
+-- 16 bits each
+parts : (a b x y : ℕ) → x ≤ 1000 → y ≤ 1000 → a * 65536 + x ≡ b * 65536 + y → (a ≡ b) × (x ≡ y)
+parts a b x y h k e = omega arith
+
+marks-differ : {a b : Marked} → MarkListed a → MarkListed b → markNumber a ≡ markNumber b → a ≡ b
+marks-differ (counts t r m u h i j k) (counts t' r' m' u' h' i' j' k') e =
+    let d = parts ((t * 65536 + r) * 65536 + m) ((t' * 65536 + r') * 65536 + m') u u' k k' e in
+    let c = parts (t * 65536 + r) (t' * 65536 + r') m m' (omega arith) (omega arith) (d .0) in
+    let b = parts t t' r r' (omega arith) (omega arith) (c .0) in
+    rw (b .0, b .1, c .1, d .1)
+marks-differ (counts t _ m u h i j k) (refused r d) e = absurd (omega (arith, small r))
+marks-differ (refused r d) (counts t _ m u h i j k) e = absurd (omega (arith, small r))
+marks-differ (refused r d) (refused q g) e = ap mark.Refused e
+
+keys-differ : {room other : ℕ} {a b : Keyed} → KeyListed room a → KeyListed other b → keyNumber a ≡ keyNumber b → a ≡ b
+keys-differ (writes n h i j) (writes m h' i' j') e = ap key.Written e
+keys-differ (writes n h i j) (refused r d) e = absurd (omega (arith, small r))
+keys-differ (refused r d) (writes n h i j) e = absurd (omega (arith, small r))
+keys-differ (refused r d) (refused q g) e = ap key.Refused e
+
+pub numbers-differ : NumbersDiffer
+numbers-differ = record { marks = λ p s q t. marks-differ (marks-listed p s) (marks-listed q t); keys = λ p b q o. keys-differ (keys-listed p b) (keys-listed q o) }
