@@ -1,0 +1,69 @@
+-- `line::line` meets its contract. Assumes nothing.
+use borrow.Author.Needs.{needs}
+use mathlib.Core.Path.{sym, _∙_}
+use Rattle.line.proofs.Puts.{then, printed}
+use Rattle.line.specs.Line.{lineOf}
+use Rattle.line.proofs.line.Statement.{statement}
+use Rattle.line.proofs.line.Tie as tie
+
+enum-known-m : tie.Need-enum-known-m
+enum-known-m c = search needs
+
+refused-requires : tie.Need-refused-requires
+refused-requires c κs = search needs
+
+enum-known-m-2 : tie.Need-enum-known-m-2
+enum-known-m-2 c = search needs
+
+put-numbers-requires : tie.Need-put-numbers-requires
+put-numbers-requires c κs = search needs
+
+perfect-requires : tie.Need-perfect-requires
+perfect-requires c κs = search needs
+
+slice-aggregate-put : tie.Need-slice-aggregate-put
+slice-aggregate-put c = search needs
+
+put-requires : tie.Need-put-requires
+put-requires c κs = search needs
+
+slice-aggregate-put-2 : tie.Need-slice-aggregate-put-2
+slice-aggregate-put-2 c = search needs
+
+put-requires-2 : tie.Need-put-requires-2
+put-requires-2 c κs = search needs
+
+returns : tie.Need-returns
+unfolding lineOf
+returns c = rw (c .before .before .before .m .given .1) (c .refused .ensures)
+
+returns-2 : tie.Need-returns-2
+unfolding lineOf
+returns-2 c =
+    let p = c .before .before .before .before in
+    let t = sym (p .perfect .ensures) ∙ c .before .before .before .if1 .taken in
+    rw (p .before .before .before .before .m2 .given .1, t) (printed (then (p .before .put-numbers .ensures .1) (c .put .ensures)))
+
+returns-3 : tie.Need-returns-3
+unfolding lineOf
+returns-3 c =
+    let p = c .before .before .before .before in
+    let t = sym (p .perfect .ensures) ∙ c .before .before .before .if1 .left in
+    rw (p .before .before .before .before .m2 .given .1, t) (printed (then (p .before .put-numbers .ensures .1) (c .put2 .ensures)))
+
+pub line-spec : {M : Type 1} → statement M
+line-spec =
+    tie.close
+    (tie.spec
+    enum-known-m
+    refused-requires
+    enum-known-m-2
+    put-numbers-requires
+    perfect-requires
+    slice-aggregate-put
+    put-requires
+    slice-aggregate-put-2
+    put-requires-2
+    returns
+    returns-2
+    returns-3)
