@@ -1,21 +1,16 @@
 -- One turn of the loops that play a paper: what is left is the place at hand, and what is left after it. Assumes nothing.
-use mathlib.Core.Path.{_≡_, refl, _∙_}
-use mathlib.Core.List.{List, [], _∷_, _++_, map, append-assoc, append-nil}
-use Prim.Native.Nat.{ℕ, zero, suc, _+_, _-_, _*_, _≤_, _<_}
+use mathlib.Core.Path.{_≡_, _∙_}
+use mathlib.Core.List.{List, _∷_, _++_, map, append-assoc, append-nil}
+use Prim.Native.Nat.{ℕ, suc, _+_, _-_, _*_, _≤_, _<_}
 use native.Mathlib.Omega.{arith}
 use lib.ListN.{length, take, drop, length-drop, length-append}
 use lib.Seq.{take-all, take-at, drop-at, length-take-le, take-length, drop-length, drop-drop}
 use Rattle.rules.specs.Step.{stepOf}
 use Rattle.rules.specs.declared.state.State.{State}
-use Rattle.rules.specs.declared.state.Answer.{Answer}
-use Rattle.locks.specs.Lists.{isZero}
-use Rattle.locks.proofs.Tests.{picked}
 use Rattle.papers.specs.Bytes.{run}
-use Rattle.papers.specs.Layout.{eventCount, answerCount, paperFits, paperOf, sheetFits, sheetOf}
-use Rattle.papers.specs.declared.layout.Read.the-variants.{Count, Refused}
 use Rattle.papers.specs.Events.{eventAt, eventsFrom}
-use Rattle.papers.specs.Answers.{answerBytes, sheetHeader, placesFrom}
-use Rattle.marker.specs.Key.{answersFrom, joined}
+use Rattle.papers.specs.Answers.{answerBytes, placesFrom}
+use Rattle.marker.specs.Key.{answersFrom}
 
 -- the places of the n - i events from the one at hand on
 abbrev pub left : State → List ℕ → ℕ → ℕ → List (List ℕ)

@@ -2,7 +2,7 @@
 use borrow.Author.Needs.{needs}
 use native.Mathlib.Omega.{arith}
 use lib.ListN.{length-take}
-use Rattle.marker.proofs.Places.{key-within}
+use Rattle.marker.proofs.Promises.{key-within}
 use Rattle.key.proofs.make_key.Statement.{statement}
 use Rattle.key.proofs.make_key.Tie as tie
 

@@ -5,7 +5,7 @@ use Rattle.marker.proofs.keys.put_answers.Tie as tie
 use Prim.Native.Nat.{_+_, _-_, _*_, _≤_}
 use mathlib.Core.Path.{_≡_, refl, sym, _∙_, ap}
 use mathlib.Core.Bool.{true}
-use mathlib.Core.List.{List, _++_, append-nil, append-assoc}
+use mathlib.Core.List.{_++_, append-nil, append-assoc}
 use native.Mathlib.Omega.{arith}
 use lib.ListN.{length, take, drop, take-append-drop}
 use lib.Seq.{drop-drop}

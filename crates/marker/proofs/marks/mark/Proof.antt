@@ -2,10 +2,8 @@
 use borrow.Author.Needs.{needs}
 use Rattle.marker.proofs.marks.mark.Statement.{statement}
 use Rattle.marker.proofs.marks.mark.Tie as tie
-use mathlib.Core.Path.{_≡_, sym, _∙_}
+use mathlib.Core.Path.{sym, _∙_}
 use Rattle.rules.proofs.States.{sound-stays}
-use Rattle.papers.specs.Layout.{paperOf, sheetOf}
-use Rattle.papers.specs.declared.layout.Read.the-variants.{Count}
 use Rattle.papers.proofs.Files.{paper-count, sheet-count}
 use Rattle.marker.specs.Key.{keyPlaces}
 use Rattle.marker.specs.Mark.{marked}

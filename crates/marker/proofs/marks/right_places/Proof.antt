@@ -2,8 +2,8 @@
 use borrow.Author.Needs.{needs}
 use Rattle.marker.proofs.marks.right_places.Statement.{statement}
 use Rattle.marker.proofs.marks.right_places.Tie as tie
-use Prim.Native.Nat.{ℕ, _+_, _-_, _*_, _≤_}
-use mathlib.Core.Path.{_≡_, sym, _∙_, ap}
+use Prim.Native.Nat.{_+_, _-_, _*_, _≤_}
+use mathlib.Core.Path.{_≡_, sym, _∙_}
 use mathlib.Core.Bool.{true, cond}
 use mathlib.Core.Logic.{⊎-elim}
 use native.Mathlib.Nat.{zero-add, add-zero}
