@@ -20,3 +20,49 @@ trap 'rm -rf "$work"' EXIT
 rt staticlib marker > "$work/log" 2>&1 || { tail -n 20 "$work/log"; exit 1; }
 $cc -std=c11 -O2 -Wall -Wextra -pedantic -Wconversion -Werror $link -o "$work/test" desk/test.c target/staticlib/libmarker.a
 $run "$work/test"
+
+# ---- the programs, in a folder of their own: what mark prints, and the bytes of the file that key writes
+rt check mark key > "$work/log" 2>&1 || { tail -n 20 "$work/log"; exit 1; }
+programs=$PWD/target/bin
+cd "$work"
+tries=0
+bytes() { printf '%b' "$(printf '%s' "$*" | tr -d ' ' | sed 's/../\\x&/g')"; }
+prints() {
+    tries=$((tries + 1))
+    said=$($load "$programs/$1" 2>&1)
+    [ "$said" = "$2" ] || { echo "FAIL $1, $3: '$said', and '$2' is right"; exit 1; }
+}
+keeps() {
+    tries=$((tries + 1))
+    bytes "$1" | cmp -s - key || { echo "FAIL key, $2: the file is not as it should be"; exit 1; }
+}
+zeros=00000000000000000000000000000000
+example="0001 0002 000C 0000 0034 0034 013A0001 $zeros 02000000 $zeros"
+answers="00000000000000000000000100000000 $zeros"
+
+prints mark "refused 15" "no files"
+prints key "refused 15" "no paper"
+bytes "$example" > paper
+prints mark "refused 17" "no sheet"
+bytes 0001 0000 0006 > sheet
+prints mark "total 2 right 0 missing 2 surplus 0 perfect no" "a blank sheet"
+prints key "" "the example"
+keeps "0001 0002 0006 $answers" "the example"
+cp key sheet
+prints mark "total 2 right 2 missing 0 surplus 0 perfect yes" "the key as a sheet"
+bytes "0001 0003 0006 $answers $zeros" > sheet
+prints mark "total 2 right 2 missing 0 surplus 1 perfect no" "an answer over"
+bytes 0001 0000 000C 0000 000C 000C > paper
+prints mark "refused 16" "a paper without events"
+bytes AA55 > key
+prints key "refused 16" "a paper without events"
+keeps AA55 "a refusal leaves an old file as it was"
+head -c 200000 /dev/zero > paper
+prints mark "refused 15" "an overlong paper"
+bytes "$example" > paper
+head -c 200000 /dev/zero >> paper
+prints mark "refused 15" "a paper with more behind it"
+rm paper sheet
+mkdir paper sheet
+prints mark "refused 15" "folders for files"
+echo "programs: $tries checks, 0 wrong"
