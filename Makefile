@@ -17,6 +17,6 @@ demo:
 test:
 	@rt fmt --check
 	@log=$$(mktemp); trap 'rm -f $$log' EXIT; \
-	rt ci 2>&1 | tee $$log | sed '$$d' || { tail -n 1 $$log; exit 1; }; \
+	rt ci 2>&1 | tee $$log | sed -u '$$d' || { tail -n 1 $$log; exit 1; }; \
 	desk/test.sh; \
 	tail -n 1 $$log

@@ -7,7 +7,6 @@ use lib.ListN.{replicate}
 use Rattle.rules.specs.declared.state.Answer.{Answer}
 use Rattle.rules.specs.Cases.{Case}
 use Rattle.rules.specs.Cases as rules
-use Rattle.papers.specs.Layout.{numberOf, badpaper, blank, badsheet}
 use Rattle.marker.specs.Mark.{marked}
 use Rattle.marker.specs.Promises.{blankSheet}
 use Rattle.marker.specs.declared.marks.Marked.{Marked}
@@ -38,9 +37,15 @@ examplePaper =
     ∷ 1 ∷ 0x3A ∷ 0 ∷ 1 ∷ replicate 16 0
     ++ 2 ∷ replicate 19 0
 
--- a paper of a header alone
+-- papers of a header alone; of one sequence and no event; of one event, which names a sequence that is not there
 abbrev noEvents : List ℕ
 noEvents = 0 ∷ 1 ∷ 0 ∷ 0 ∷ 0 ∷ 12 ∷ 0 ∷ 0 ∷ 0 ∷ 12 ∷ 0 ∷ 12 ∷ []
+
+abbrev oneSequence : List ℕ
+oneSequence = 0 ∷ 1 ∷ 0 ∷ 0 ∷ 0 ∷ 12 ∷ 0 ∷ 1 ∷ 0 ∷ 12 ∷ 0 ∷ 28 ∷ replicate 16 0x41
+
+abbrev noSuchSequence : List ℕ
+noSuchSequence = 0 ∷ 1 ∷ 0 ∷ 1 ∷ 0 ∷ 12 ∷ 0 ∷ 0 ∷ 0 ∷ 32 ∷ 0 ∷ 32 ∷ 1 ∷ 0x3A ∷ 0 ∷ 1 ∷ replicate 14 0 ++ 0 ∷ 1 ∷ []
 
 unfoldable pub table : List Row
 table =
@@ -48,13 +53,18 @@ table =
     map played rules.table
     -- (l) blank sheet: right 0
     ++ handed examplePaper blankSheet (Mark 2 0 2 0)
-    -- a paper without events, before the sheet is looked at; files that are empty, or one byte too long
-    ∷ handed noEvents blankSheet (Refused (numberOf blank))
-    ∷ handed noEvents [] (Refused (numberOf blank))
-    ∷ handed [] blankSheet (Refused (numberOf badpaper))
-    ∷ handed (examplePaper ++ 0 ∷ []) blankSheet (Refused (numberOf badpaper))
-    ∷ handed examplePaper [] (Refused (numberOf badsheet))
-    ∷ handed examplePaper (blankSheet ++ 0 ∷ []) (Refused (numberOf badsheet))
+    -- 15 badpaper: empty, one byte too long, a name above the count; before the sheet is looked at
+    ∷ handed [] blankSheet (Refused 15)
+    ∷ handed (examplePaper ++ 0 ∷ []) blankSheet (Refused 15)
+    ∷ handed noSuchSequence blankSheet (Refused 15)
+    ∷ handed [] [] (Refused 15)
+    -- 16 blank: no events, with a sequence or without; before the sheet is looked at
+    ∷ handed noEvents blankSheet (Refused 16)
+    ∷ handed oneSequence blankSheet (Refused 16)
+    ∷ handed noEvents [] (Refused 16)
+    -- 17 badsheet: empty, one byte too long
+    ∷ handed examplePaper [] (Refused 17)
+    ∷ handed examplePaper (blankSheet ++ 0 ∷ []) (Refused 17)
     ∷ []
 
 abbrev pub WorkedCases : Type 0
