@@ -1,6 +1,5 @@
 # Brinefeather. `make demo` shows what it does, `make test` proves and tests everything.
 SHELL := bash
-.SHELLFLAGS := -eu -o pipefail -c
 .PHONY: demo test
 
 demo:
@@ -16,7 +15,7 @@ demo:
 # The desk's tests want what rt ci proved and built, and its last line is to stay the last one.
 test:
 	@rt fmt --check
-	@log=$$(mktemp); trap 'rm -f $$log' EXIT; \
+	@set -eu -o pipefail; log=$$(mktemp); trap 'rm -f $$log' EXIT; \
 	rt ci 2>&1 | tee $$log | sed -u '$$d' || { tail -n 1 $$log; exit 1; }; \
 	desk/test.sh; \
 	tail -n 1 $$log

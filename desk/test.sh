@@ -1,6 +1,7 @@
 #!/usr/bin/env bash
-# Builds the archive and tries it and the programs from outside: the C test, then `mark` and `key` on files.
+# Builds the archive and tries it and the programs from outside: the C test, random papers against the plain C routines, then `mark` and `key` on files.
 # On x86-64 by gcc; elsewhere by a cross compiler, and the programs run under the kit's emulator.
+# shellcheck disable=SC2086 # the words of $packages, $link, $run and $load are meant to be split
 set -eu
 cd "$(dirname "$0")/.."
 kit=$(dirname "$(dirname "$(readlink -f "$(command -v rt)")")")
@@ -12,14 +13,17 @@ else
     run=$kit/on/$machine/toolchain/bin/qemu-x86_64
     load="$run $kit/toolchain/lib/ld-linux-x86-64.so.2 --library-path $kit/toolchain/lib"
 fi
-# shellcheck disable=SC2086 # the words of $packages, $run and $load are meant to be split
 command -v $cc > /dev/null || { apt-get update -qq && apt-get install -y -qq $packages > /dev/null; }
 
 work=$(mktemp -d)
 trap 'rm -rf "$work"' EXIT
 rt staticlib marker > "$work/log" 2>&1 || { tail -n 20 "$work/log"; exit 1; }
-$cc -std=c11 -O2 -Wall -Wextra -pedantic -Wconversion -Werror $link -o "$work/test" desk/test.c target/staticlib/libmarker.a
+strict="-std=c11 -O2 -Wall -Wextra -pedantic -Wconversion -Werror"
+$cc $strict $link -o "$work/test" desk/test.c target/staticlib/libmarker.a
 $run "$work/test"
+$cc $strict $link -o "$work/compare" desk/trial/compare.c desk/plain/papers.c desk/plain/model.c target/staticlib/libmarker.a
+$run "$work/compare" 20 300 1 > "$work/log" || { cat "$work/log"; exit 1; }
+tail -n 1 "$work/log"
 
 # ---- the programs, in a folder of their own: what mark prints, and the bytes of the file that key writes
 rt check mark key > "$work/log" 2>&1 || { tail -n 20 "$work/log"; exit 1; }
@@ -29,7 +33,7 @@ tries=0
 bytes() { printf '%b' "$(printf '%s' "$*" | tr -d ' ' | sed 's/../\\x&/g')"; }
 prints() {
     tries=$((tries + 1))
-    said=$($load "$programs/$1" 2>&1)
+    said=$($load "$programs/$1" 2>&1) || said="$said (status $?)"
     [ "$said" = "$2" ] || { echo "FAIL $1, $3: '$said', and '$2' is right"; exit 1; }
 }
 keeps() {
@@ -62,7 +66,13 @@ prints mark "refused 15" "an overlong paper"
 bytes "$example" > paper
 head -c 200000 /dev/zero >> paper
 prints mark "refused 15" "a paper with more behind it"
-rm paper sheet
-mkdir paper sheet
-prints mark "refused 15" "folders for files"
+bytes "$example" > paper
+head -c 200000 /dev/zero > sheet
+prints mark "refused 17" "an overlong sheet"
+rm sheet
+mkdir sheet
+prints mark "refused 17" "a folder for a sheet"
+rm paper
+mkdir paper
+prints mark "refused 15" "a folder for a paper"
 echo "programs: $tries checks, 0 wrong"

@@ -9,10 +9,8 @@ fn save(key: &[u8]) {
         os::fail(b"key");
         return;
     }
-    if !io::write_all(fd, key) {
-        os::fail(b"key");
-    }
-    if libc::close(fd) < 0 {
+    let written = io::write_all(fd, key);
+    if libc::close(fd) < 0 || !written {
         os::fail(b"key");
     }
 }

@@ -1,3 +1,3 @@
 pub mod Puts
-pub mod Places
+pub mod Digits
 pub mod Cases

@@ -2,20 +2,18 @@
 use Prim.Native.Nat.{ℕ, suc, _+_, _-_, _≤_}
 use native.Mathlib.Nat.{add-zero, zero-add}
 use native.Mathlib.Omega.{arith}
-use mathlib.Core.Path.{_≡_, refl, sym}
-use mathlib.Core.List.{List, [], _∷_, _++_, append-nil, append-assoc}
-use lib.ListN.{length, take, drop, set, length-append, length-drop}
-use lib.Seq.{sets, sets-eq, length-sets, take-at, drop-at, take-all, take-length, drop-length, drop-drop}
+use mathlib.Core.Path.{_≡_, refl, sym, _∙_}
+use mathlib.Core.List.{List, [], _∷_, _++_}
+use lib.ListN.{length, take, drop, set, length-append}
+use lib.Seq.{sets, sets-eq, length-sets, take-at, drop-at, take-length}
+use Rattle.marker.proofs.Turns.{whole}
 use Rattle.line.specs.Line.{Put, Printed}
 
 -- a text copied to the start of the tail from `at` on
 module _ (text o y : List ℕ) (at : ℕ) (h : at + length text ≤ length o)
     (e : y ≡ take (length text) text ++ drop (length text) (take (length o - at) (drop at o))) where
   in-tail : take at o ++ (y ++ drop (length o - at) (drop at o)) ≡ sets o at text
-  in-tail =
-      let m : length (drop at o) ≤ length o - at = simp length-drop (omega arith) in
-      rw (e, take-length, take-all (length o - at) (drop at o), ← length-drop at o, drop-length, append-nil, drop-drop, ← append-assoc)
-      (sym (sets-eq text o at h))
+  in-tail = whole o text y at (length text) h refl (rw take-length at e) ∙ sym (sets-eq text o at h)
 
   pub to-tail : Put text at o (at + length text) (take at o ++ (y ++ drop (length o - at) (drop at o)))
   to-tail = record { ends = refl; room = rw (in-tail, length-sets) h; stored = in-tail }

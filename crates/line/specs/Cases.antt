@@ -19,6 +19,7 @@ table =
     -- numbers where a digit is added, and the longest line
     ∷ (Mark 10 99 100 9999, "total 10 right 99 missing 100 surplus 9999 perfect no\n")
     ∷ (Mark 10000 10000 65535 0, "total 10000 right 10000 missing 65535 surplus 0 perfect yes\n")
+    ∷ (Mark 65535 10000 65535 65535, "total 65535 right 10000 missing 65535 surplus 65535 perfect no\n")
     ∷ []
 
 -- the line of each mark is the text beside it

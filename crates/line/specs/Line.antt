@@ -24,12 +24,12 @@ abbrev pub ascii : String → List ℕ
 ascii s = codes s 0 (len s)
 
 -- how many digits a number below 100,000 has
-abbrev pub places : ℕ → ℕ
-places n = cond (ltb n 10) 1 (cond (ltb n 100) 2 (cond (ltb n 1000) 3 (cond (ltb n 10000) 4 5)))
+abbrev pub digitCount : ℕ → ℕ
+digitCount n = cond (ltb n 10) 1 (cond (ltb n 100) 2 (cond (ltb n 1000) 3 (cond (ltb n 10000) 4 5)))
 
 -- a number below 100,000 in decimal, without zeros in front
 unfoldable pub decimal : ℕ → List ℕ
-decimal n = digits 10 (places n) n
+decimal n = digits 10 (digitCount n) n
 
 -- a number behind its name
 abbrev pub named : String → ℕ → List ℕ

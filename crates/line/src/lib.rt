@@ -1,6 +1,5 @@
-// The line that a program prints. The longest one, with four numbers of five digits and `perfect yes`, has 64 bytes.
+// The line that a program prints. The longest one, with four numbers of five digits and `perfect no`, has 63 bytes.
 use marker::marks::Marked;
-ghost use mathlib.Core.Path.{_≡_};
 ghost use mathlib.Core.List.{_++_};
 ghost use Prim.Native.Nat.{_+_, _≤_};
 ghost use lib.ListN.{length};

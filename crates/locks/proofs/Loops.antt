@@ -1,6 +1,7 @@
 -- Laws of lists, as loops over arrays use them. Assumes nothing.
 use Prim.Native.Nat.{ℕ, zero, suc, _+_, _-_, _≤_, _<_, min}
 use native.Mathlib.Omega.{arith}
+use native.Mathlib.Nat.{not-suc-le-zero}
 use native.Mathlib.Numerals.{add-one}
 use mathlib.Core.Path.{_≡_, refl, sym, ap, _∙_}
 use mathlib.Core.Bool.{Bool, true, false, _||_, and-false, and-true, or-false, or-true}
@@ -10,7 +11,7 @@ use lib.ListN.{length, getD, take, set, replicate, length-append, List·getD-eq-
 use lib.Seq.{take-all, take-suc, getD-take, length-take-le, set-at}
 use borrow.Author.Tests.{eq-eqb, ne-eqb, eqb-true, eqb-false, leb-true, leb-false}
 use Rattle.locks.specs.Lists.{any, keep, sift, consIf, padded, agree}
-use Rattle.locks.proofs.Tests.{cases}
+use Rattle.locks.proofs.Tests.{cases, and-split}
 use Rattle.locks.proofs.Lists.{some-any, any-end}
 use Rattle.locks.proofs.Fewer.{fewer-sift, fewer-length}
 
@@ -178,6 +179,19 @@ agree-min k (suc n) x y hx hy =
     let b : length y ≤ n = omega arith in
     rw (m, agree-min k n x y hx hy, List·getD-eq-default x 0 a, List·getD-eq-default y 0 b) (and-true (agree (min n k) x y)))
     (λ e. let l : n < k = leb-false k n e in let m : min (suc n) k ≡ suc n = omega arith in rw m)
+
+pub agree-self : (n : ℕ) (x : List ℕ) → agree n x x ≡ true
+unfolding agree
+agree-self zero x = refl
+agree-self (suc n) x = rw (agree-self n x, eq-eqb (getD x n 0) (getD x n 0) refl)
+
+pub agree-at : (n : ℕ) (x y : List ℕ) → agree n x y ≡ true → (i : ℕ) → i < n → getD x i 0 ≡ getD y i 0
+unfolding agree
+agree-at zero x y h i l = absurd (not-suc-le-zero l)
+agree-at (suc n) x y h i l =
+    let s = and-split (agree n x y) (eqb (getD x n 0) (getD y n 0)) h in
+    cases (eqb i n) (λ e. rw (eqb-true i n e) (eqb-true (getD x n 0) (getD y n 0) (s .1)))
+    (λ e. let d : i ≡ n → ⊥ = eqb-false i n e in agree-at n x y (s .0) i (omega arith))
 
 -- ---- a loop that counts down
 

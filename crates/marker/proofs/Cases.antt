@@ -5,7 +5,7 @@ use Rattle.rules.specs.Cases as rules
 use Rattle.rules.proofs.Cases as rules-hold
 use Rattle.papers.specs.Bytes.{number16}
 use Rattle.papers.specs.Layout.{field, headerFits, paperFits, paperOf, sheetFits, sheetOf}
-use Rattle.marker.specs.Key.{keyPlaces}
+use Rattle.marker.specs.Key.{keyPlaces, keyed}
 use Rattle.marker.specs.Mark.{marked}
 use Rattle.marker.specs.Cases.{played, answers, comes, should, table, WorkedCases}
 
@@ -15,5 +15,5 @@ played-hold =
     ∙ map-map answers rules.should rules.table ∙ sym (map-map should played rules.table)
 
 pub worked-cases : WorkedCases
-unfolding number16 field headerFits paperFits paperOf sheetFits sheetOf keyPlaces marked table
+unfolding number16 field headerFits paperFits paperOf sheetFits sheetOf keyPlaces keyed marked table
 worked-cases = rw (map-append, map-append, played-hold)

@@ -1,15 +1,16 @@
 -- The places of a key and of a sheet. Assumes nothing.
 use Prim.Native.Nat.{ℕ, zero, suc, _+_, _*_, _≤_, min}
 use native.Mathlib.Omega.{arith}
-use mathlib.Core.Path.{_≡_, refl, ap}
-use mathlib.Core.Bool.{true}
+use mathlib.Core.Path.{_≡_, refl, sym, ap, _∙_}
+use mathlib.Core.Bool.{true, cond}
+use mathlib.Core.Logic.{_≢_}
+use native.Mathlib.Nat.{zero-add, add-assoc}
 use mathlib.Core.List.{List, [], _∷_, _++_, map, append-assoc}
 use lib.ListN.{length, length-append}
 use lib.Seq.{ext-getD}
-use borrow.Author.Tests.{eq-eqb}
 use Rattle.locks.specs.Lists.{agree}
-use Rattle.locks.proofs.Tests.{cases, picked}
-use Rattle.soundness.proofs.Words.{agree-at}
+use Rattle.locks.proofs.Tests.{cases, picked, off}
+use Rattle.locks.proofs.Loops.{agree-self, agree-at}
 use Rattle.rules.specs.State.{laid, fresh}
 use Rattle.rules.specs.Step.{stepOf}
 use Rattle.rules.specs.declared.state.State.{State}
@@ -22,6 +23,7 @@ use Rattle.papers.proofs.Runs.{run-part}
 use Rattle.papers.proofs.Sheets.{header-long, answer-long, made-count}
 use Rattle.marker.specs.Key.{answersFrom, keyPlaces, joined, keyOf}
 use Rattle.marker.specs.Mark.{rightPlaces}
+use Rattle.marker.specs.Promises.{PlacesCount}
 
 -- ---- how many they are
 
@@ -59,17 +61,26 @@ right-most (x ∷ xs) (y ∷ ys) =
 pub right-fits : (p s : List ℕ) → rightPlaces (keyPlaces p) (placesOf s) ≤ min (eventCount p) (answerCount s)
 right-fits p s = rw (key-count p, sheet-count s 6 (answerCount s)) at (right-most (keyPlaces p) (placesOf s))
 
-agree-self : (x : List ℕ) → agree 16 x x ≡ true
-unfolding agree
-agree-self x = simp eq-eqb
-
 pub right-self : (xs : List (List ℕ)) → rightPlaces xs xs ≡ length xs
 right-self [] = refl
-right-self (x ∷ xs) = rw (agree-self x, right-self xs) (omega arith)
+right-self (x ∷ xs) = rw (agree-self 16 x, right-self xs) (omega arith)
 
 same : (a : Answer) (t : List ℕ) (from : ℕ) → agree 16 (answerBytes a) (run t from 16) ≡ true → answerBytes a ≡ run t from 16
 unfolding answerBytes
 same a t from e = ext-getD 0 (answerBytes a) (run t from 16) refl (agree-at 16 (answerBytes a) (run t from 16) e)
+
+-- each place counts by itself
+right-parts : (xs ys more over : List (List ℕ)) → length xs ≡ length ys → rightPlaces (xs ++ more) (ys ++ over) ≡ rightPlaces xs ys + rightPlaces more over
+right-parts [] [] more over h = sym (zero-add (rightPlaces more over))
+right-parts [] (y ∷ ys) more over h = absurd (omega arith)
+right-parts (x ∷ xs) [] more over h = absurd (omega arith)
+right-parts (x ∷ xs) (y ∷ ys) more over h = rw (right-parts xs ys more over (omega arith)) (sym (add-assoc (cond (agree 16 x y) 1 0) (rightPlaces xs ys) (rightPlaces more over)))
+
+right-wrong : (x y : List ℕ) → length x ≡ 16 → length y ≡ 16 → x ≢ y → rightPlaces (x ∷ []) (y ∷ []) ≡ 0
+right-wrong x y h k d = rw (off (agree 16 x y) (λ e. d (ext-getD 0 x y (h ∙ sym k) (λ i l. agree-at 16 x y e i (omega arith)))))
+
+pub places-count : PlacesCount
+places-count = record { parts = right-parts; right = λ x. right-self (x ∷ []); wrong = right-wrong }
 
 -- where all are right, they are the same
 pub right-all : (xs : List Answer) (t : List ℕ) (from n : ℕ) → n ≤ length (map answerBytes xs) → rightPlaces (map answerBytes xs) (placesFrom t from n) ≡ length (map answerBytes xs)

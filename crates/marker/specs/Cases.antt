@@ -7,28 +7,35 @@ use lib.ListN.{replicate}
 use Rattle.rules.specs.declared.state.Answer.{Answer}
 use Rattle.rules.specs.Cases.{Case}
 use Rattle.rules.specs.Cases as rules
+use Rattle.marker.specs.Key.{keyed}
 use Rattle.marker.specs.Mark.{marked}
 use Rattle.marker.specs.Promises.{blankSheet}
+use Rattle.marker.specs.declared.keys.Keyed.{Keyed}
+use Rattle.marker.specs.declared.keys.Keyed.the-variants.{Refused as Unwritten}
 use Rattle.marker.specs.declared.marks.Marked.{Marked}
 use Rattle.marker.specs.declared.marks.Marked.the-variants.{Mark, Refused}
 
--- a case of events, or a paper, a sheet and its mark
+-- a case of events; or a paper, a sheet and its mark; or a paper and a buffer, what is answered and the buffer after it
 pub data Row : Type 0 where
   played : Case → Row
   handed : List ℕ → List ℕ → Marked → Row
+  lent : List ℕ → List ℕ → Keyed → List ℕ → Row
 
--- answers to events and a test of the machine after them, or a mark
+-- answers to events and a test of the machine after them; or a mark; or what became of a key
 pub data Result : Type 0 where
   answers : List Answer × Bool → Result
   mark : Marked → Result
+  key : Keyed × List ℕ → Result
 
 abbrev pub comes : Row → Result
 comes (played c) = answers (rules.comes c)
 comes (handed paper sheet m) = mark (marked paper sheet)
+comes (lent paper buffer k after) = key (keyed paper buffer)
 
 abbrev pub should : Row → Result
 should (played c) = answers (rules.should c)
 should (handed paper sheet m) = mark m
+should (lent paper buffer k after) = key (k, after)
 
 -- "Paper `0001 0002 000C 0000 0034 0034`, then event `01 3A 0001` and sixteen zero bytes, then event `02` and nineteen zero bytes."
 abbrev pub examplePaper : List ℕ
@@ -65,6 +72,11 @@ table =
     -- 17 badsheet: empty, one byte too long
     ∷ handed examplePaper [] (Refused 17)
     ∷ handed examplePaper (blankSheet ++ 0 ∷ []) (Refused 17)
+    -- a key: 15, then 16, then 18 noroom, a byte short of 6 + 16 x 2; the buffer as it was
+    ∷ lent [] (replicate 9 7) (Unwritten 15) (replicate 9 7)
+    ∷ lent noSuchSequence [] (Unwritten 15) []
+    ∷ lent noEvents [] (Unwritten 16) []
+    ∷ lent examplePaper (replicate 37 7) (Unwritten 18) (replicate 37 7)
     ∷ []
 
 abbrev pub WorkedCases : Type 0

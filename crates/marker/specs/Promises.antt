@@ -2,13 +2,13 @@
 use Prim.Native.Nat.{ℕ, _+_, _*_, _≤_}
 use mathlib.Core.Path.{_≡_}
 use mathlib.Core.Bool.{true}
-use mathlib.Core.List.{List, [], _∷_}
+use mathlib.Core.List.{List, [], _∷_, _++_}
 use mathlib.Core.Logic.{_↔_, _≢_}
 use lib.ListN.{length}
 use Rattle.papers.specs.Layout.{Refusal, numberOf, badsheet, noroom, eventCount, answerCount, paperFits, sheetFits}
 use Rattle.papers.specs.Answers.{placesOf}
 use Rattle.marker.specs.Key.{keyPlaces, keyOf, keyed}
-use Rattle.marker.specs.Mark.{marked, isPerfect}
+use Rattle.marker.specs.Mark.{rightPlaces, marked, isPerfect}
 use Rattle.marker.specs.Desk.{markNumber, keyNumber}
 use Rattle.marker.specs.declared.keys.Keyed.{Keyed}
 use Rattle.marker.specs.declared.keys.Keyed.the-variants as key
@@ -23,9 +23,16 @@ pub record AllRight (p s : List ℕ) : Type 0 where
   pub count : answerCount s ≡ eventCount p
   pub bytes : placesOf s ≡ keyPlaces p
 
--- "Full marks mean every event of a paper with at least one event was answered rightly, with no answer over."
+-- demand 2: "Full marks mean every event of a paper with at least one event was answered rightly, with no answer over."
 abbrev pub PerfectExact : Type 0
 PerfectExact = (p s : List ℕ) → (isPerfect (marked p s) ≡ true) ↔ AllRight p s
+
+-- "right is the number of places where all 16 bytes agree": each place counts by itself, one where they agree and none where they do not
+pub record PlacesCount : Type 0 where
+  pub parts : (key sheet more over : List (List ℕ)) → length key ≡ length sheet
+      → rightPlaces (key ++ more) (sheet ++ over) ≡ rightPlaces key sheet + rightPlaces more over
+  pub right : (x : List ℕ) → rightPlaces (x ∷ []) (x ∷ []) ≡ 1
+  pub wrong : (x y : List ℕ) → length x ≡ 16 → length y ≡ 16 → x ≢ y → rightPlaces (x ∷ []) (y ∷ []) ≡ 0
 
 -- "Sheet `0001 0000 0006`"
 abbrev pub blankSheet : List ℕ

@@ -37,7 +37,7 @@ fn put_answer(out: &mut [u8], a: Answer)
     bytes::copy(&record, out);
 }
 
-// Puts the answers to the paper's first n events, the first given in the state s, at the start of the key behind its header.
+// Puts the answers to the paper's first n events, the first given in the state s, at the start of what is left of the key.
 fn put_answers(mut s: State, p: &[u8], n: u16, out: &mut [u8])
     requires { ⌜ (sound s ≡ true) × (16 * n ≤ length (now out)) ⌝ }
     ensures { λ _. ⌜ now (out .exit) ≡ joined (map answerBytes (answersFrom s (eventsFrom (now (p .entry)) 12 n))) ++ drop (16 * n) (now (out .entry)) ⌝ }

@@ -3,3 +3,4 @@ pub mod Layout
 pub mod Events
 pub mod Answers
 pub mod Promises
+pub mod Cases

@@ -16,7 +16,8 @@ use Rattle.locks.proofs.Tests.{off, and-split}
 use Rattle.locks.proofs.Lists.{some-any, any-end, any-mono}
 use Rattle.soundness.specs.Waiting.{fitRow, Told, Note, blank, Noted, meeting}
 use Rattle.soundness.specs.declared.rows.Words.{Words}
-use Rattle.soundness.proofs.Words.{same, different, agree-at, fit-parts}
+use Rattle.locks.proofs.Loops.{agree-at}
+use Rattle.soundness.proofs.Words.{same, different, fit-parts}
 
 -- ---- both rows are shared, or not
 

@@ -1,6 +1,6 @@
 -- Sixteen bytes as two numbers, and rows told by them. Assumes nothing.
 use Prim.Native.Nat.{ℕ, zero, suc, _+_, _-_, _*_, _/_, _^_, _≤_, _<_}
-use native.Mathlib.Nat.{div-div-eq-div-mul, zero-div, not-suc-le-zero}
+use native.Mathlib.Nat.{div-div-eq-div-mul, zero-div}
 use native.Mathlib.Omega.{arith}
 use mathlib.Core.Path.{_≡_, refl, sym, ap, _∙_}
 use mathlib.Core.Bool.{Bool, true, false, not, _&&_, and-comm, and-assoc}
@@ -15,6 +15,7 @@ use Rattle.locks.specs.Rows.{sameSequence}
 use Rattle.locks.specs.declared.rows.Row.{Row}
 use Rattle.locks.proofs.Tests.{cases, off, and-split, and-join}
 use Rattle.locks.proofs.Lists.{all-drop}
+use Rattle.locks.proofs.Loops.{agree-self, agree-at}
 use Rattle.locks.proofs.Fewer.{fewer-all}
 use Rattle.soundness.specs.Waiting.{isByte, value, Worded, fitRow, Told, Note}
 use Rattle.soundness.specs.declared.rows.Words.{Words}
@@ -104,19 +105,6 @@ same-words {x} {y} p q e f =
     sym (take-append-drop 8 x) ∙ rw (a, b) (take-append-drop 8 y)
 
 -- ---- equal sequences
-
-agree-self : (n : ℕ) (x : List ℕ) → agree n x x ≡ true
-unfolding agree
-agree-self zero x = refl
-agree-self (suc n) x = rw (agree-self n x, eq-eqb (getD x n 0) (getD x n 0) refl)
-
-pub agree-at : (n : ℕ) (x y : List ℕ) → agree n x y ≡ true → (i : ℕ) → i < n → getD x i 0 ≡ getD y i 0
-unfolding agree
-agree-at zero x y h i l = absurd (not-suc-le-zero l)
-agree-at (suc n) x y h i l =
-    let s = and-split (agree n x y) (eqb (getD x n 0) (getD y n 0)) h in
-    cases (eqb i n) (λ e. rw (eqb-true i n e) (eqb-true (getD x n 0) (getD y n 0) (s .1)))
-    (λ e. let d : i ≡ n → ⊥ = eqb-false i n e in agree-at n x y (s .0) i (omega arith))
 
 zero-at : (xs : List ℕ) → all isZero xs ≡ true → (i : ℕ) → getD xs i 0 ≡ 0
 zero-at [] h i = refl

@@ -2,7 +2,7 @@
 use borrow.Author.Needs.{needs}
 use native.Mathlib.Omega.{arith}
 use Rattle.line.proofs.Puts.{then}
-use Rattle.line.proofs.Places.{fewest}
+use Rattle.line.proofs.Digits.{fewest}
 use Rattle.line.specs.Line.{decimal}
 use Rattle.line.proofs.put_named.Statement.{statement}
 use Rattle.line.proofs.put_named.Tie as tie

@@ -1,13 +1,13 @@
--- The fewest digits that hold a number are its places. Assumes nothing.
+-- The fewest digits that hold a number are its digits. Assumes nothing.
 use Prim.Native.Nat.{ℕ, zero, suc, _^_, _≤_, _<_}
 use native.Mathlib.Nat.{le-trans, pow-le-pow-right}
 use native.Mathlib.Omega.{arith}
 use mathlib.Core.Path.{_≡_}
 use borrow.Author.Tests.{lt-ltb, le-ltb}
 use Rattle.io.specs.Digits.{Fewest}
-use Rattle.line.specs.Line.{places}
+use Rattle.line.specs.Line.{digitCount}
 
-pub fewest : (n k : ℕ) → n < 100000 → Fewest 10 1 n k → (k ≡ places n) × (k ≤ 5)
+pub fewest : (n k : ℕ) → n < 100000 → Fewest 10 1 n k → (k ≡ digitCount n) × (k ≤ 5)
 fewest n zero h f = omega arith
 fewest n (suc zero) h f = (rw (lt-ltb n 10 (omega arith)), omega arith)
 fewest n (suc (suc zero)) h f =
