@@ -1,12 +1,13 @@
 -- Laws of the tests over lists. Assumes nothing.
-use Prim.Native.Nat.{ℕ, zero, suc, _<_, suc-le-suc, zero-le}
+use Prim.Native.Nat.{ℕ, zero, suc, _<_, suc-le-suc, zero-le, _+_, _≤_}
 use native.Mathlib.Nat.{le-of-suc-le-suc, not-suc-le-zero}
-use mathlib.Core.Path.{_≡_, refl, sym, _∙_}
-use mathlib.Core.Bool.{Bool, true, _||_, false≢true, or-false, or-assoc}
-use mathlib.Core.List.{List, [], _∷_, _++_, map}
+use native.Mathlib.Omega.{arith}
+use mathlib.Core.Path.{_≡_, refl, sym, _∙_, ap}
+use mathlib.Core.Bool.{Bool, true, _||_, false≢true, or-false, or-assoc, false, not}
+use mathlib.Core.List.{List, [], _∷_, _++_, map, append-assoc, append-nil}
 use lib.ListN.{length, getD, drop, replicate}
-use Rattle.locks.specs.Lists.{any, all}
-use Rattle.locks.proofs.Tests.{and-split, and-join, and-mono, or-left, or-right, or-elim, or-mono}
+use Rattle.locks.specs.Lists.{any, all, keep, sift, consIf}
+use Rattle.locks.proofs.Tests.{and-split, and-join, and-mono, or-left, or-right, or-elim, or-mono, cases, or-off}
 
 module _ {A : Type 0} where
   -- an element that passes, by its place
@@ -58,3 +59,61 @@ module _ {A : Type 0} where
   all-drop f zero xs h = h
   all-drop f (suc d) [] h = refl
   all-drop f (suc d) (x ∷ xs) h = all-drop f d xs (and-split (f x) (all f xs) h .1)
+
+  -- ---- parts of a list
+
+  pub any-parts : (f : A → Bool) (xs ys : List A) → any f (xs ++ ys) ≡ false → (any f xs ≡ false) × (any f ys ≡ false)
+  any-parts f [] ys h = (refl, h)
+  any-parts f (x ∷ xs) ys h =
+      let s = or-off (f x) (any f (xs ++ ys)) h in
+      let t = any-parts f xs ys (s .1) in
+      (rw (s .0) (t .0), t .1)
+
+  pub keep-some : (f : A → Bool) (xs : List A) → any f xs ≡ true → 1 ≤ length (keep f xs)
+  keep-some f [] h = absurd (false≢true h)
+  keep-some f (x ∷ xs) h = cases (f x) (λ e. rw e (suc-le-suc zero-le)) (λ e. rw e (keep-some f xs (rw e at h)))
+
+  pub keep-none : (f : A → Bool) (xs : List A) → any f xs ≡ false → keep f xs ≡ []
+  keep-none f [] h = refl
+  keep-none f (x ∷ xs) h = let s = or-off (f x) (any f xs) h in rw (s .0) (keep-none f xs (s .1))
+
+  pub sift-append : (f : List A → A → Bool) (ahead xs ys : List A) → sift f ahead (xs ++ ys) ≡ sift f ahead xs ++ sift f (ahead ++ xs) ys
+  sift-append f ahead [] ys = rw append-nil
+  sift-append f ahead (x ∷ xs) ys =
+      let e = rw append-assoc at (sift-append f (ahead ++ x ∷ []) xs ys) in
+      cases (f ahead x) (λ t. rw t (ap (λ (l : List A). x ∷ l) e)) (λ t. rw t e)
+
+  pub nil-of : (xs : List A) → length xs ≤ 0 → xs ≡ []
+  nil-of [] h = refl
+  nil-of (x ∷ xs) h = absurd (omega arith)
+
+  pub all-parts : (f : A → Bool) (xs ys : List A) → all f (xs ++ ys) ≡ true → (all f xs ≡ true) × (all f ys ≡ true)
+  all-parts f [] ys h = (refl, h)
+  all-parts f (x ∷ xs) ys h =
+      let s = and-split (f x) (all f (xs ++ ys)) h in
+      let t = all-parts f xs ys (s .1) in
+      (and-join (f x) _ (s .0) (t .0), t .1)
+
+  pub keep-append : (f : A → Bool) (xs ys : List A) → keep f (xs ++ ys) ≡ keep f xs ++ keep f ys
+  keep-append f [] ys = refl
+  keep-append f (x ∷ xs) ys = cases (f x) (λ e. rw e (ap (λ (l : List A). x ∷ l) (keep-append f xs ys))) (λ e. rw e (keep-append f xs ys))
+
+  pub keep-all : (f : A → Bool) (xs : List A) → all f xs ≡ true → keep f xs ≡ xs
+  keep-all f [] h = refl
+  keep-all f (x ∷ xs) h = let s = and-split (f x) (all f xs) h in rw (s .0) (ap (λ (l : List A). x ∷ l) (keep-all f xs (s .1)))
+
+  pub keep-swap : (f g : A → Bool) (xs : List A) → keep f (keep g xs) ≡ keep g (keep f xs)
+  keep-swap f g [] = refl
+  keep-swap f g (x ∷ xs) =
+      let i = keep-swap f g xs in
+      cases (f x) (λ a. cases (g x) (λ b. rw (a, b, a) (ap (λ (l : List A). x ∷ l) i)) (λ b. rw (a, b) i))
+      (λ a. cases (g x) (λ b. rw (a, b, a) i) (λ b. rw (a, b) i))
+
+  -- one test or another, of which the first is never met
+  pub keep-second : (f g : A → Bool) (xs : List A) → any f xs ≡ false → keep (λ x. f x || g x) xs ≡ keep g xs
+  keep-second f g [] h = refl
+  keep-second f g (x ∷ xs) h = let s = or-off (f x) (any f xs) h in rw (s .0) (ap (consIf (g x) x) (keep-second f g xs (s .1)))
+
+  pub keep-both : (f : A → Bool) (xs : List A) → length xs ≡ length (keep f xs) + length (keep (λ x. not (f x)) xs)
+  keep-both f [] = refl
+  keep-both f (x ∷ xs) = let i = keep-both f xs in cases (f x) (λ e. rw e (omega arith)) (λ e. rw e (omega arith))

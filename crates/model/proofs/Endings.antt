@@ -40,7 +40,8 @@ use Rattle.model.specs.Target.{Target}
 use Rattle.model.specs.Laid.{Lays, Tidy, Caller, placeOf, stored, answeredAs, wakesBy, masked}
 use Rattle.model.proofs.Laying.{lays-live, lays-fits, lays-long, lays-unused, lays-put, tidy, table-rows}
 use Rattle.model.proofs.Marks.{Marked, marked, mark, mark-bit, mark-small}
-use Rattle.model.proofs.Masks.{mask-alike, mask-none, same-masks, put-masks, first-put, first-map, settled-quiet, settled-masked}
+use Rattle.rules.proofs.Places.{first-other}
+use Rattle.model.proofs.Masks.{mask-alike, mask-none, same-masks, put-masks, first-map, settled-quiet, settled-masked}
 use Rattle.model.proofs.Sweep.{tabled}
 
 -- ---- lists with a gap
@@ -436,7 +437,7 @@ wakes-one m after o q e l a z = (
 
     there : (j : ℕ) → member j (pids (m .procs)) ≡ true → has (q .pid) (first j) ≡ false → firstOf (first j .pid) (after .procs) ≡ first j
     there j h k =
-        rw e (first-put q (first j .pid) (m .procs) (ne-eqb (q .pid) (first j .pid) (λ (f : q .pid ≡ first j .pid). eqb-false (first j .pid) (q .pid) k (sym f))))
+        rw e (first-other q (first j .pid) (m .procs) (ne-eqb (q .pid) (first j .pid) (λ (f : q .pid ≡ first j .pid). eqb-false (first j .pid) (q .pid) k (sym f))))
         ∙ ap first (first-pid j (m .procs) h)
 
 -- ---- what the sender is answered

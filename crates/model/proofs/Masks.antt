@@ -3,9 +3,9 @@ use Prim.Native.Nat.{ℕ, _+_}
 use native.Mathlib.Omega.{arith}
 use mathlib.Core.Path.{_≡_, refl, sym, ap, _∙_}
 use mathlib.Core.Bool.{Bool, true, false, not, _&&_, and-true, true≢false, false≢true}
-use mathlib.Core.List.{List, [], _∷_, _++_, map, map-append}
+use mathlib.Core.List.{List, [], _∷_, map, map-append}
 use lib.Dec.{eqb, leb}
-use borrow.Author.Tests.{eqb-true, eqb-false, eq-eqb, ne-eqb}
+use borrow.Author.Tests.{eqb-true, eq-eqb, ne-eqb}
 use Rattle.locks.specs.Lists.{mask, member}
 use Rattle.locks.proofs.Tests.{cases, and-split, or-left, or-right}
 use Rattle.locks.proofs.Lists.{any-append}
@@ -21,6 +21,7 @@ use Rattle.rules.proofs.Frame.{Ok, fit-ascend, below-first, pids-put, first-pid
 use Rattle.rules.specs.declared.state.Stepped.{Stepped}
 use Rattle.rules.proofs.States.{view-laid}
 use Rattle.rules.proofs.Rows.{granted-pid}
+use Rattle.rules.proofs.Places.{first-other, first-end}
 use Rattle.processes.specs.Told.{answerOf}
 use Rattle.model.specs.Laid.{Lays, wakesBy, masked, settledAs}
 
@@ -64,18 +65,6 @@ quiet-masks m after o alive asleep = (
 
 -- ---- the same processes; one of them in its place; one more
 
-pub first-put : (q : Process) (n : ℕ) (ps : List Process) → eqb (q .pid) n ≡ false → firstOf n (inPlace q ps) ≡ firstOf n ps
-unfolding firstOf inPlace
-first-put q n [] d = refl
-first-put q n (p ∷ ps) d =
-    cases (has (q .pid) p) (λ e. let f : p .pid ≡ q .pid = eqb-true (p .pid) (q .pid) e in rw (e, d, ne-eqb (p .pid) n (λ (g : p .pid ≡ n). eqb-false (q .pid) n d (sym f ∙ g))))
-    (λ e. rw (e, first-put q n ps d))
-
-first-end : (c : Process) (n : ℕ) (ps : List Process) → member n (pids ps) ≡ true → firstOf n (ps ++ c ∷ []) ≡ firstOf n ps
-unfolding firstOf
-first-end c n [] h = absurd (false≢true h)
-first-end c n (p ∷ ps) h = cases (has n p) (λ e. rw e) (λ e. rw e (first-end c n ps (rw e at h)))
-
 module _ (m after : Machine) (o : Ok m) where
   pub same-masks : after .procs ≡ m .procs → Quiet m after
   unfolding lives processOf
@@ -87,7 +76,7 @@ module _ (m after : Machine) (o : Ok m) where
       quiet-masks m after o (λ n l. rw (e, pids-put q (m .procs)) l)
       (λ n l h.
       cases (eqb (q .pid) n) (λ f. absurd (true≢false (sym h ∙ (rw (eqb-true (q .pid) n f) at a))))
-      (λ f. rw (e, first-put q n (m .procs) f) h))
+      (λ f. rw (e, first-other q n (m .procs) f) h))
 
 pub born-masks : (c : Process) (m : Machine) → Ok m → Quiet m (born c m)
 unfolding lives processOf born

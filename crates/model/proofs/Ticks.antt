@@ -11,7 +11,7 @@ use lib.Dec.{eqb, leb}
 use borrow.Author.Tests.{eqb-true, eqb-false, eq-eqb, ne-eqb, leb-true}
 use Rattle.locks.specs.Lists.{any, mask, member, isZero}
 use Rattle.locks.specs.declared.rows.Row.{Row}
-use Rattle.locks.proofs.Tests.{cases, picked, and-split, or-off}
+use Rattle.locks.proofs.Tests.{cases, and-split, or-off}
 use Rattle.locks.proofs.Lists.{any-end, any-append}
 use Rattle.rules.specs.State.{Machine, view, has, pids, firstOf, processOf, inPlace, put, each, withAlarm}
 use Rattle.rules.specs.Signals.{arrives}
@@ -22,6 +22,7 @@ use Rattle.rules.specs.Step.{settled}
 use Rattle.rules.specs.declared.state.Process.{Process}
 use Rattle.rules.specs.declared.state.State.{State}
 use Rattle.rules.specs.declared.state.Answer.{Answer}
+use Rattle.rules.proofs.Courses.{slept-alarm}
 use Rattle.rules.proofs.Frame.{Ok, fit-ascend, pids-map, live-pid}
 use Rattle.rules.proofs.Arrivals.{slept-pid}
 use Rattle.soundness.proofs.Laws.{take-pids}
@@ -74,12 +75,6 @@ second p = withAlarm (p .alarm - 1) (slept p)
 
 unfoldable less : Process → Process
 less p = withAlarm (p .alarm - 1) p
-
-slept-alarm : (p : Process) → slept p .alarm ≡ p .alarm
-unfolding slept
-slept-alarm p =
-    picked (λ (q : Process). q .alarm ≡ p .alarm) (eqb (p .rest .sleep) 3)
-    (λ _. picked (λ (q : Process). q .alarm ≡ p .alarm) (eqb (p .rest .seconds) 1) (λ _. refl) (λ _. refl)) (λ _. refl)
 
 -- its alarm is on, or off
 module _ (p : Process) {q : Process} (e : q ≡ slept p) where

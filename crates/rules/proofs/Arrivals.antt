@@ -71,7 +71,7 @@ sane-roused {p = p} left g s l t r =
     let a : p .rest .sleep ≡ 0 = eqb-true (p .rest .sleep) 0 (not-false _ e) in
     record { sleeps = s .sleeps; woke = s .woke; calm = rw a; traps = t; prior = s .prior; reacts = r; locks = rw a l })
 
-trapped-awake : (s a : ℕ) (p : Process) → trapped s a p .rest .sleep ≡ 0
+pub trapped-awake : (s a : ℕ) (p : Process) → trapped s a p .rest .sleep ≡ 0
 unfolding trapped
 trapped-awake s a p = roused-awake _
 
@@ -81,7 +81,7 @@ trapped-sane rows s a n p e l k d h =
     sane-roused (withoutWaiting n rows) _ h (rw e (none-waiting n rows)) (traps-or (s - 1) (p .signals .pending) a (p .signals .traps) (omega arith) k (h .traps))
     (reactions-set (p .pid) s ignore (p .signals .reactions) (λ (q : p .pid ≡ 1). d (sym e ∙ q)) k (h .reacts))
 
-granted-awake : (rows : List Row) (p : Process) → p .rest .sleep ≡ 0 → granted rows p ≡ p
+pub granted-awake : (rows : List Row) (p : Process) → p .rest .sleep ≡ 0 → granted rows p ≡ p
 unfolding granted
 granted-awake rows p e = rw e
 
@@ -107,7 +107,7 @@ alarm-ignored : (reactions : List ℕ) → reactionsFit 1 reactions ≡ true →
 unfolding reactionsFit
 alarm-ignored reactions h = eqb-true (getD reactions 4 abort) ignore ((simp and-eq-true-iff at h) .1 .1 .1 .1 .0)
 
-no-reaction : (s : ℕ) → reactionTo s noProcess ≡ abort
+pub no-reaction : (s : ℕ) → reactionTo s noProcess ≡ abort
 unfolding noProcess newProcess
 no-reaction s = zeros 7 (s - 1)
   where
@@ -180,16 +180,16 @@ slept-sane rows p s =
     (eqb-true (p .signals .pending) 0 (rw f at (s .calm))) (rw f at (s .locks))))
     (λ _. s)
 
-ignores-alarm : (m : Machine) → Ok m → reactionTo 5 (processOf m 1) ≡ ignore
+pub ignores-alarm : (m : Machine) → Ok m → reactionTo 5 (processOf m 1) ≡ ignore
 unfolding lives
 ignores-alarm m o =
     let h = fit-one (pids (m .procs)) (m .next) (o .frame .fit) in
     alarm-ignored (processOf m 1 .signals .reactions) (subst (λ (n : ℕ). reactionsFit n (processOf m 1 .signals .reactions) ≡ true) (live-pid m 1 h) (live-sane m 1 o h .reacts))
 
-ok-alarm : (n a : ℕ) (m : Machine) → lives m n ≡ true → Ok m → Ok (put (withAlarm a (processOf m n)) m)
+pub ok-alarm : (n a : ℕ) (m : Machine) → lives m n ≡ true → Ok m → Ok (put (withAlarm a (processOf m n)) m)
 ok-alarm n a m h o = let s = live-sane m n o h in ok-put _ m (sane-plain s _ _ _ a (s .prior)) o
 
-no-alarm : (m : Machine) → rings noProcess m ≡ m
+pub no-alarm : (m : Machine) → rings noProcess m ≡ m
 unfolding rings noProcess newProcess
 no-alarm m = refl
 

@@ -32,7 +32,7 @@ Free m = RingFree (m .rows)
 abbrev pub Less : Machine → Machine → Type 0
 Less m after = Fewer (after .rows) (m .rows)
 
-less-put : (q : Process) (m : Machine) → Less m (put q m)
+pub less-put : (q : Process) (m : Machine) → Less m (put q m)
 unfolding put
 less-put q m = fewer-refl (m .rows)
 

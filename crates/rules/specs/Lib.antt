@@ -7,3 +7,4 @@ pub mod Sound
 pub mod Step
 pub mod Promises
 pub mod Cases
+pub mod Demands
