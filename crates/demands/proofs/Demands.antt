@@ -1,0 +1,197 @@
+-- Demands 1 and 2 are met. Assumes nothing.
+use Prim.Native.Nat.{ℕ, _+_, _*_}
+use native.Mathlib.Omega.{arith}
+use mathlib.Core.Path.{_≡_, refl, sym, ap, _∙_}
+use mathlib.Core.Bool.{true}
+use mathlib.Core.List.{List, [], _∷_, _++_, map}
+use lib.ListN.{length, take, drop}
+use lib.Dec.{ltb}
+use lib.Seq.{take-append-seam, drop-append-seam}
+use Rattle.locks.proofs.Tests.{cases}
+use Rattle.rules.specs.State.{laid, fresh}
+use Rattle.rules.specs.Step.{stepOf}
+use Rattle.rules.specs.Sound.{sound}
+use Rattle.rules.specs.declared.state.State.{State}
+use Rattle.rules.specs.declared.state.Event.{Event}
+use Rattle.rules.specs.declared.state.Answer.{Answer}
+use Rattle.rules.specs.declared.state.Stepped.{Stepped}
+use Rattle.rules.proofs.Walk.{answers-listed, refused-keeps}
+use Rattle.rules.proofs.States.{sound-stays}
+use Rattle.papers.specs.Layout.{eventCount, paperOf, sheetOf}
+use Rattle.papers.specs.Events.{eventsOf}
+use Rattle.papers.specs.Answers.{answerBytes, placesOf}
+use Rattle.papers.specs.declared.layout.Read.{Read}
+use Rattle.papers.specs.declared.layout.Read.the-variants as read
+use Rattle.papers.proofs.Files.{some as counted, paper-count}
+use Rattle.marker.specs.Key.{answersFrom, keyPlaces, keyOf, keyedFor, keyed}
+use Rattle.marker.specs.Mark.{rightPlaces, markedFor, marked}
+use Rattle.marker.specs.declared.keys.Keyed.{Keyed}
+use Rattle.marker.specs.declared.keys.Keyed.the-variants as key
+use Rattle.marker.specs.declared.marks.Marked.the-variants as mark
+use Rattle.marker.proofs.Places.{places-count, key-places}
+use Rattle.marker.proofs.Promises.{perfect-exact, marks-listed, keys-listed, key-long}
+use Rattle.model.proofs.fresh.Met as fresh-code
+use Rattle.model.proofs.step.Met as step-code
+use Rattle.model.proofs.advance.Met as advance-code
+use Rattle.marker.proofs.key.Met as key-code
+use Rattle.marker.proofs.mark.Met as mark-code
+use Rattle.marker.proofs.perfect.Met as perfect-code
+use Rattle.marker.proofs.brinefeather_key.Met as brinefeather-key-code
+use Rattle.marker.proofs.brinefeather_mark.Met as brinefeather-mark-code
+use Rattle.demands.specs.Demands.{Code, StepGives, AdvanceGives, stateFrom, Calls, none, more, ByTheRules, Demand1, Demand2}
+
+pub code : {M : Type 1} → Code M
+code =
+    record {
+      fresh = fresh-code.met;
+      step = step-code.met;
+      advance = advance-code.met;
+      key = key-code.met;
+      mark = mark-code.met;
+      perfect = perfect-code.met;
+      brinefeather-key = brinefeather-key-code.met;
+      brinefeather-mark = brinefeather-mark-code.met;
+    }
+
+-- ---- any events
+
+-- one event more
+answers-more : (s : State) (es : List Event) (e : Event) → answersFrom s (es ++ e ∷ []) ≡ answersFrom s es ++ stepOf (stateFrom s es) e .answer ∷ []
+answers-more s [] e = refl
+answers-more s (d ∷ es) e = rw (answers-more (stepOf s d .state) es e)
+
+state-more : (s : State) (es : List Event) (e : Event) → stateFrom s (es ++ e ∷ []) ≡ stepOf (stateFrom s es) e .state
+state-more s [] e = refl
+state-more s (d ∷ es) e = state-more (stepOf s d .state) es e
+
+every : (s : State) (before : List Event) (e : Event) (rest : List Event)
+    → answersFrom s (before ++ e ∷ rest) ≡ answersFrom s before ++ stepOf (stateFrom s before) e .answer ∷ answersFrom (stateFrom s (before ++ e ∷ [])) rest
+every s [] e rest = refl
+every s (d ∷ before) e rest = rw (every (stepOf s d .state) before e rest)
+
+by-the-rules : (G : State → Event → Stepped → Type 0) → ((s : State) (e : Event) (r : Stepped) → G s e r → r ≡ stepOf s e)
+    → {s : State} → s ≡ laid fresh → {es : List Event} {given : List Answer} {t : State} → Calls G s es given t → ByTheRules es given t
+by-the-rules G keeps f none = record { answers = refl; state = f }
+by-the-rules G keeps f (more {es = es} {given = given} {t = t} c e r g) =
+    let k = by-the-rules G keeps f c in
+    let a : r ≡ stepOf (stateFrom (laid fresh) es) e = keeps t e r g ∙ ap (λ (x : State). stepOf x e) (k .state) in
+    record {
+      answers = rw (answers-more (laid fresh) es e, a, k .answers);
+      state = rw (state-more (laid fresh) es e) (ap (λ (x : Stepped). x .state) a);
+    }
+
+sound-from : (s : State) → sound s ≡ true → (es : List Event) → sound (stateFrom s es) ≡ true
+sound-from s h [] = h
+sound-from s h (e ∷ es) = sound-from (stepOf s e .state) (sound-stays .next s e h) es
+
+-- ---- keys
+
+-- what a key comes to: nothing was written, or the whole key was
+pub data Came (p buffer : List ℕ) : Keyed × List ℕ → Type 0 where
+  refuses : (n : ℕ) → Came p buffer (key.Refused n, buffer)
+  writes : Came p buffer (key.Written (6 + 16 * eventCount p), keyOf p ++ drop (6 + 16 * eventCount p) buffer)
+
+came : (p buffer : List ℕ) → Came p buffer (keyed p buffer)
+unfolding keyed
+came p buffer = go (paperOf p) refl
+  where
+    go : (x : Read) → paperOf p ≡ x → Came p buffer (keyedFor x (keyOf p) buffer)
+    go (read.Refused n) e = refuses n
+    go (read.Count n) e =
+        rw (paper-count p n e)
+        (cases (ltb (length buffer) (6 + 16 * eventCount p)) (λ l. rw l (refuses 18)) (λ l. rw l writes))
+
+no-byte : (p buffer : List ℕ) (n : ℕ) (after : List ℕ) {x : Keyed × List ℕ} → (key.Refused n, after) ≡ x → Came p buffer x → after ≡ buffer
+no-byte p buffer n after e (refuses k) = ap (λ (x : Keyed × List ℕ). x .1) e
+no-byte p buffer n after e writes =
+    let f : key.Refused n ≡ key.Written (6 + 16 * eventCount p) = ap (λ (x : Keyed × List ℕ). x .0) e in
+    let z : _≡_ {A = ℕ} 0 1 = cc in
+    absurd (omega arith)
+
+-- the key, and the rest of the buffer
+pub record Whole (p buffer : List ℕ) (n : ℕ) (after : List ℕ) : Type 0 where
+  pub long : n ≡ 6 + 16 * eventCount p
+  pub is : after ≡ keyOf p ++ drop n buffer
+
+whole : (p buffer : List ℕ) (n : ℕ) (after : List ℕ) {x : Keyed × List ℕ} → (key.Written n, after) ≡ x → Came p buffer x → Whole p buffer n after
+whole p buffer n after e (refuses k) =
+    let f : key.Written n ≡ key.Refused k = ap (λ (x : Keyed × List ℕ). x .0) e in
+    let z : _≡_ {A = ℕ} 0 1 = cc in
+    absurd (omega arith)
+whole p buffer n after e writes =
+    let f : key.Written n ≡ key.Written (6 + 16 * eventCount p) = ap (λ (x : Keyed × List ℕ). x .0) e in
+    let l : n ≡ 6 + 16 * eventCount p = cc in
+    record { long = l; is = rw l (ap (λ (x : Keyed × List ℕ). x .1) e) }
+
+module _ (p buffer : List ℕ) (n : ℕ) (after : List ℕ) (w : Whole p buffer n after) where
+  size : length (keyOf p) ≡ n
+  size = key-long p ∙ sym (w .long)
+
+  taken : take n after ≡ keyOf p
+  taken = rw (w .is, ← size) (take-append-seam (keyOf p) (drop (length (keyOf p)) buffer))
+
+  dropped : drop n after ≡ drop n buffer
+  dropped = rw (w .is, ← size) (drop-append-seam (keyOf p) (drop (length (keyOf p)) buffer))
+
+  has-places : placesOf (take n after) ≡ map answerBytes (answersFrom (laid fresh) (eventsOf p))
+  unfolding keyPlaces
+  has-places = rw taken (key-places p)
+
+-- ---- marks
+
+paper-no-mark : (p s : List ℕ) (n : ℕ) → paperOf p ≡ read.Refused n → marked p s ≡ mark.Refused n
+unfolding marked
+paper-no-mark p s n e = rw e
+
+sheet-no-mark : (p s : List ℕ) (k n : ℕ) → paperOf p ≡ read.Count k → sheetOf s ≡ read.Refused n → marked p s ≡ mark.Refused n
+unfolding marked
+sheet-no-mark p s k n e f = rw (e, f)
+
+no-key : (p buffer : List ℕ) (n : ℕ) → paperOf p ≡ read.Refused n → keyed p buffer ≡ (key.Refused n, buffer)
+unfolding keyed
+no-key p buffer n e = rw e
+
+right-is : (p s : List ℕ) (total right missing surplus : ℕ) → mark.Mark total right missing surplus ≡ marked p s
+    → right ≡ rightPlaces (map answerBytes (answersFrom (laid fresh) (eventsOf p))) (placesOf s)
+unfolding marked keyPlaces
+right-is p s total right missing surplus e = go (paperOf p) (sheetOf s) e
+  where
+    n : ℕ
+    n = rightPlaces (map answerBytes (answersFrom (laid fresh) (eventsOf p))) (placesOf s)
+
+    go : (x y : Read) → mark.Mark total right missing surplus ≡ markedFor x y n → right ≡ n
+    go (read.Refused k) y e = let z : _≡_ {A = ℕ} 0 1 = cc in absurd (omega arith)
+    go (read.Count t) (read.Refused k) e = let z : _≡_ {A = ℕ} 0 1 = cc in absurd (omega arith)
+    go (read.Count t) (read.Count a) e = cc
+
+-- ---- the demands
+
+pub demand-1 : Demand1
+demand-1 =
+    record {
+      given = λ s e. (stepOf s e, refl);
+      listed = λ s e r g. rw g (answers-listed s e);
+      same = λ s e r g h. rw g (ap (λ (x : Stepped). x .state) (refused-keeps s e (rw g at h) .1));
+      markGiven = λ p s. (marked p s, refl);
+      marksListed = λ p s r g. rw g (marks-listed p s);
+      keyGiven = λ p buffer. (keyed p buffer .0, keyed p buffer .1, refl);
+      keysListed = λ p buffer r after g. rw (ap (λ (x : Keyed × List ℕ). x .0) g) (keys-listed p buffer);
+      noByte = λ p buffer n after g. no-byte p buffer n after g (came p buffer);
+      noKey = λ p buffer n e r after g. ap (λ (x : Keyed × List ℕ). x .0) (g ∙ no-key p buffer n e);
+      paperNoMark = λ p s n e r g. g ∙ paper-no-mark p s n e;
+      sheetNoMark = λ p s k n e f r g. g ∙ sheet-no-mark p s k n e f;
+    }
+
+pub demand-2 : Demand2
+demand-2 =
+    record {
+      steps = λ s f es given t c. by-the-rules StepGives (λ u e r g. g) f c;
+      advances = λ s f es given t c. by-the-rules AdvanceGives (λ u e r g. g .0) f c;
+      may = λ s f es given t c e. rw (by-the-rules AdvanceGives (λ u d r g. g .0) f c .state) (sound-from (laid fresh) (sound-stays .first) es);
+      every = every;
+      places = λ p buffer n after g. has-places p buffer n after (whole p buffer n after g (came p buffer));
+      behind = λ p buffer n after g. let w = whole p buffer n after g (came p buffer) in (w .long, dropped p buffer n after w);
+      counted = right-is;
+      byPlaces = places-count;
+      full = λ p s r g. rw g (perfect-exact p s);
+    }

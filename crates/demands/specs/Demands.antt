@@ -1,0 +1,134 @@
+-- Demands 1 and 2, of the code; demand 3 is in crate rules. In this file quotation marks stand around the demands' own words. Assumes nothing.
+use Prim.Native.Nat.{ℕ, _+_, _*_}
+use mathlib.Core.Path.{_≡_}
+use mathlib.Core.Bool.{true}
+use mathlib.Core.Logic.{_↔_}
+use mathlib.Core.List.{List, [], _∷_, _++_, map}
+use lib.ListN.{length, take, drop}
+use denote.Ref.{RefT}
+use Rattle.rules.specs.State.{laid, fresh}
+use Rattle.rules.specs.Step.{stepOf}
+use Rattle.rules.specs.Promises.{Listed}
+use Rattle.rules.specs.declared.state.State.{State}
+use Rattle.rules.specs.declared.state.Event.{Event}
+use Rattle.rules.specs.declared.state.Answer.{Answer}
+use Rattle.rules.specs.declared.state.Stepped.{Stepped}
+use Rattle.papers.specs.Layout.{eventCount, paperOf, sheetOf}
+use Rattle.papers.specs.Events.{eventsOf}
+use Rattle.papers.specs.Answers.{answerBytes, placesOf}
+use Rattle.papers.specs.declared.layout.Read.the-variants as read
+use Rattle.marker.specs.Key.{answersFrom}
+use Rattle.marker.specs.Mark.{rightPlaces, isPerfect}
+use Rattle.marker.specs.Promises.{MarkListed, KeyListed, PlacesCount, AllRight}
+use Rattle.marker.specs.declared.keys.Keyed.{Keyed}
+use Rattle.marker.specs.declared.keys.Keyed.the-variants as keyed
+use Rattle.marker.specs.declared.marks.Marked.{Marked}
+use Rattle.marker.specs.declared.marks.Marked.the-variants as marked
+use Rattle.model.proofs.fresh.Statement as fresh-theorem
+use Rattle.model.proofs.fresh.Reads as fresh-promise
+use Rattle.model.proofs.step.Statement as step-theorem
+use Rattle.model.proofs.step.Reads as step-promise
+use Rattle.model.proofs.advance.Statement as advance-theorem
+use Rattle.model.proofs.advance.Reads as advance-promise
+use Rattle.marker.proofs.key.Statement as key-theorem
+use Rattle.marker.proofs.key.Reads as key-promise
+use Rattle.marker.proofs.mark.Statement as mark-theorem
+use Rattle.marker.proofs.mark.Reads as mark-promise
+use Rattle.marker.proofs.perfect.Statement as perfect-theorem
+use Rattle.marker.proofs.brinefeather_key.Statement as brinefeather-key-theorem
+use Rattle.marker.proofs.brinefeather_mark.Statement as brinefeather-mark-theorem
+
+-- ---- the code
+
+-- Each public routine of model and marker keeps its promise: `statement` is what the toolchain makes of the routine and of the promise that stands above it in crates/*/src.
+pub record Code (M : Type 1) : Type 2 where
+  pub fresh : fresh-theorem.statement M
+  pub step : step-theorem.statement M
+  pub advance : advance-theorem.statement M
+  pub key : key-theorem.statement M
+  pub mark : mark-theorem.statement M
+  pub perfect : perfect-theorem.statement M
+  pub brinefeather-key : brinefeather-key-theorem.statement M
+  pub brinefeather-mark : brinefeather-mark-theorem.statement M
+
+-- What the promises say of a call, as any caller reads them: `fresh` gives s; `step`, and `advance` where it may be called, give r for the event e in the state s
+abbrev pub FreshGives : State → Type 0
+FreshGives s = fresh-promise.Post tt tt s tt
+
+abbrev pub StepGives : State → Event → Stepped → Type 0
+StepGives s e r = step-promise.Post tt (s, (e, tt)) r (s, (e, tt))
+
+abbrev pub AdvanceAsks : State → Event → Type 0
+AdvanceAsks s e = advance-promise.Pre tt (s, (e, tt))
+
+abbrev pub AdvanceGives : State → Event → Stepped → Type 0
+AdvanceGives s e r = advance-promise.Post tt (s, (e, tt)) r (s, (e, tt))
+
+-- bytes lent from wherever they lie
+abbrev lent : List ℕ → RefT (List ℕ)
+lent x = record { ptr = (0, 0); name = 0; now = x }
+
+-- `key` gives r for the paper p, with `after` in the buffer then
+abbrev pub KeyGives : List ℕ → List ℕ → Keyed → List ℕ → Type 0
+KeyGives p buffer r after = key-promise.Post (p, (buffer, tt)) (lent p, (lent buffer, tt)) r (lent p, (lent after, tt))
+
+-- `mark` gives r for the paper p and the sheet s
+abbrev pub MarkGives : List ℕ → List ℕ → Marked → Type 0
+MarkGives p s r = mark-promise.Post (p, (s, tt)) (lent p, (lent s, tt)) r (lent p, (lent s, tt))
+
+-- ---- demand 1
+
+pub record Demand1 : Type 0 where
+  -- "every event and state, gets an answer from the rules' own list": there is one, and whatever is given is listed
+  pub given : (s : State) (e : Event) → (r : Stepped) × StepGives s e r
+  pub listed : (s : State) (e : Event) (r : Stepped) → StepGives s e r → Listed (r .answer)
+  -- "A refused event hands back the same state"
+  pub same : (s : State) (e : Event) (r : Stepped) → StepGives s e r → r .answer .kind ≡ 3 → r .state ≡ s
+  -- "Every byte string offered as paper or sheet .. gets an answer from the rules' own list"
+  pub markGiven : (p s : List ℕ) → (r : Marked) × MarkGives p s r
+  pub marksListed : (p s : List ℕ) (r : Marked) → MarkGives p s r → MarkListed r
+  pub keyGiven : (p buffer : List ℕ) → (r : Keyed) × (after : List ℕ) × KeyGives p buffer r after
+  pub keysListed : (p buffer : List ℕ) (r : Keyed) (after : List ℕ) → KeyGives p buffer r after → KeyListed (length buffer) r
+  -- "a refused paper or sheet writes no byte of the key and yields no mark"
+  pub noByte : (p buffer : List ℕ) (n : ℕ) (after : List ℕ) → KeyGives p buffer (keyed.Refused n) after → after ≡ buffer
+  pub noKey : (p buffer : List ℕ) (n : ℕ) → paperOf p ≡ read.Refused n → (r : Keyed) (after : List ℕ) → KeyGives p buffer r after → r ≡ keyed.Refused n
+  pub paperNoMark : (p s : List ℕ) (n : ℕ) → paperOf p ≡ read.Refused n → (r : Marked) → MarkGives p s r → r ≡ marked.Refused n
+  pub sheetNoMark : (p s : List ℕ) (k n : ℕ) → paperOf p ≡ read.Count k → sheetOf s ≡ read.Refused n → (r : Marked) → MarkGives p s r → r ≡ marked.Refused n
+
+-- ---- demand 2
+
+-- the state that the events leave, by the rules
+abbrev pub stateFrom : State → List Event → State
+stateFrom s [] = s
+stateFrom s (e ∷ es) = stateFrom (stepOf s e .state) es
+
+-- calls of a routine one after the other, each with the state that the last one gave: the events, the answers given, the state then
+pub data Calls (Gives : State → Event → Stepped → Type 0) (s : State) : List Event → List Answer → State → Type 0 where
+  none : Calls Gives s [] [] s
+  more : {es : List Event} {given : List Answer} {t : State} → Calls Gives s es given t → (e : Event) (r : Stepped) → Gives t e r
+      → Calls Gives s (es ++ e ∷ []) (given ++ r .answer ∷ []) (r .state)
+
+-- the answers, and the state, of the rules
+pub record ByTheRules (es : List Event) (given : List Answer) (s : State) : Type 0 where
+  pub answers : given ≡ answersFrom (laid fresh) es
+  pub state : s ≡ stateFrom (laid fresh) es
+
+pub record Demand2 : Type 0 where
+  -- "From the fresh state, through any events, each event gives exactly the answer and new state of the rules."
+  pub steps : (s : State) → FreshGives s → (es : List Event) (given : List Answer) (t : State) → Calls StepGives s es given t → ByTheRules es given t
+  pub advances : (s : State) → FreshGives s → (es : List Event) (given : List Answer) (t : State) → Calls AdvanceGives s es given t → ByTheRules es given t
+  -- `advance` may be called at each of them
+  pub may : (s : State) → FreshGives s → (es : List Event) (given : List Answer) (t : State) → Calls AdvanceGives s es given t → (e : Event) → AdvanceAsks t e
+  -- the answers of the rules, at every event: the one to that event in the state that those before it left
+  pub every : (s : State) (before : List Event) (e : Event) (rest : List Event)
+      → answersFrom s (before ++ e ∷ rest) ≡ answersFrom s before ++ stepOf (stateFrom s before) e .answer ∷ answersFrom (stateFrom s (before ++ e ∷ [])) rest
+  -- the key that is written has those answers, place by place, and what lay behind it in the buffer lies there still
+  pub places : (p buffer : List ℕ) (n : ℕ) (after : List ℕ) → KeyGives p buffer (keyed.Written n) after
+      → placesOf (take n after) ≡ map answerBytes (answersFrom (laid fresh) (eventsOf p))
+  pub behind : (p buffer : List ℕ) (n : ℕ) (after : List ℕ) → KeyGives p buffer (keyed.Written n) after → (n ≡ 6 + 16 * eventCount p) × (drop n after ≡ drop n buffer)
+  -- "The mark counts the places where sheet and key are equal.": each place counts by itself, one where the 16 bytes are equal and none where they are not
+  pub counted : (p s : List ℕ) (total right missing surplus : ℕ) → MarkGives p s (marked.Mark total right missing surplus)
+      → right ≡ rightPlaces (map answerBytes (answersFrom (laid fresh) (eventsOf p))) (placesOf s)
+  pub byPlaces : PlacesCount
+  -- "Full marks mean every event of a paper with at least one event was answered rightly, with no answer over."
+  pub full : (p s : List ℕ) (r : Marked) → MarkGives p s r → (isPerfect r ≡ true) ↔ AllRight p s
