@@ -10,10 +10,10 @@ use lib.Dec.{eqb, leb}
 use lib.Pow.{pow-lt}
 use lib.ListN.{length, getD, take, drop, set, replicate, length-append, length-map, length-replicate, replicate-append-replicate}
 use lib.Seq.{take-suc, drop-cons, set-at, getD-at}
-use borrow.Author.Tests.{lt-ltb, eq-eqb, ne-eqb, eqb-true, eqb-false, not-true, not-false}
+use borrow.Author.Tests.{lt-ltb, eq-eqb, ne-eqb, eqb-true, eqb-false, not-true}
 use Rattle.locks.specs.Lists.{between, mask, all, isZero, member, sift, keep, consIf, padded}
-use Rattle.locks.proofs.Tests.{cases, picked, and-split, or-off}
-use Rattle.locks.proofs.Lists.{all-mono}
+use Rattle.locks.proofs.Tests.{cases, and-split, or-off}
+use Rattle.locks.proofs.Lists.{all-mono, keep-append}
 use Rattle.model.proofs.Kept.{machine-ok}
 use Rattle.model.proofs.Places.{place-member}
 use Rattle.locks.specs.Rows.{owns, rowsOf, laidRows, waitingOf, waitsOf, withoutOwner, withoutWaiting}
@@ -28,33 +28,25 @@ use Rattle.soundness.proofs.Laws.{take-pids}
 use Rattle.model.proofs.Events.{lives-here, process-here}
 use Rattle.rules.specs.Sound.{ascend, lockFits, soundProcess, soundMachine}
 use Rattle.rules.specs.Step.{wokenMask, endedMask, settled}
-use Rattle.rules.specs.Signals.{gone, ends, roused, trapped, reacts, arrives}
+use Rattle.rules.specs.Signals.{gone, ends, trapped, reacts, arrives}
 use Rattle.rules.specs.declared.state.Answer.{Answer}
 use Rattle.rules.specs.declared.state.Process.{Process}
 use Rattle.rules.specs.declared.state.State.{State}
 use Rattle.rules.specs.declared.state.Stepped.{Stepped}
-use Rattle.rules.proofs.Frame.{Ok, fit-ascend, first-pid, below-first, pids-put, all-put, live-pid, live-sane, pids-map}
-use Rattle.rules.proofs.Rows.{granted-pid}
+use Rattle.rules.proofs.Frame.{Ok, fit-ascend, first-pid, below-first, pids-put, all-put, live-pid, live-sane}
 use Rattle.rules.proofs.Sane.{sane}
 use Rattle.model.specs.Target.{Target}
 use Rattle.model.specs.Laid.{Lays, Tidy, Caller, placeOf, stored, answeredAs, wakesBy, masked}
 use Rattle.model.proofs.Laying.{lays-live, lays-fits, lays-long, lays-unused, lays-put, tidy, table-rows}
 use Rattle.model.proofs.Marks.{Marked, marked, mark, mark-bit, mark-small}
-use Rattle.rules.proofs.Places.{first-other}
-use Rattle.model.proofs.Masks.{mask-alike, mask-none, same-masks, put-masks, first-map, settled-quiet, settled-masked}
+use Rattle.rules.proofs.Arrivals.{trapped-awake}
+use Rattle.rules.proofs.Places.{first-other, first-own, trapped-pid, ends-dead, ends-lives, ends-process}
+use Rattle.model.proofs.Masks.{mask-alike, mask-none, same-masks, put-masks, settled-quiet, settled-masked}
 use Rattle.model.proofs.Sweep.{tabled}
 
 -- ---- lists with a gap
 
 module _ {A : Type 0} where
-  keep-end : (g : A → Bool) (xs : List A) (x : A) → keep g (xs ++ x ∷ []) ≡ keep g xs ++ consIf (g x) x []
-  keep-end g [] x = refl
-  keep-end g (y ∷ xs) x = rw (keep-end g xs x) (go (g y))
-    where
-      go : (b : Bool) → consIf b y (keep g xs ++ consIf (g x) x []) ≡ consIf b y (keep g xs) ++ consIf (g x) x []
-      go true = refl
-      go false = refl
-
   gap-end : (j : ℕ) (z : A) (rest : List A) → replicate j z ++ z ∷ rest ≡ replicate (suc j) z ++ rest
   gap-end zero z rest = refl
   gap-end (suc j) z rest = ap (λ (l : List A). z ∷ l) (gap-end j z rest)
@@ -159,7 +151,7 @@ module _ {n : ℕ} {f : Process → Process} (same : (p : Process) → f p .pid 
 
   kept-end : kept n f (s .procs) (i + 1) ≡ kept n f (s .procs) i ++ consIf (stays n this) (f this) []
   kept-end =
-      rw (add-one i, take-suc (s .procs) i d in-list, map-append f (take i (s .procs)) (this ∷ []), keep-end (stays n) (map f (take i (s .procs))) (f this))
+      rw (add-one i, take-suc (s .procs) i d in-list, map-append f (take i (s .procs)) (this ∷ []), keep-append (stays n) (map f (take i (s .procs))) (f this ∷ []))
       (ap (λ (j : ℕ). kept n f (s .procs) i ++ consIf (not (eqb j n)) (f this) []) (same this))
 
   -- one is done
@@ -257,36 +249,17 @@ process-ended {n} {table} {a} {t} {w} {e} {bit} {k} {i} {kind} {x} l o c h r =
 
 -- ---- the masks where one ends
 
-stays-alive : (n o : ℕ) (ps : List Process) → eqb o n ≡ false → member o (pids ps) ≡ true → member o (pids (keep (stays n) ps)) ≡ true
-stays-alive n o [] d h = absurd (false≢true h)
-stays-alive n o (p ∷ ps) d h =
-    cases (has n p)
-    (λ e. let f : has o p ≡ false = ne-eqb (p .pid) o (λ (g : p .pid ≡ o). eqb-false o n d (sym g ∙ eqb-true (p .pid) n e)) in rw e (stays-alive n o ps d (rw f at h)))
-    (λ e. cases (has o p) (λ f. rw (e, f)) (λ f. rw (e, f) (stays-alive n o ps d (rw f at h))))
-
-gone-dead : (n : ℕ) (ps : List Process) → member n (pids (keep (stays n) ps)) ≡ false
-gone-dead n [] = refl
-gone-dead n (p ∷ ps) = cases (has n p) (λ e. rw e (gone-dead n ps)) (λ e. rw (e, e) (gone-dead n ps))
-
-stays-first : (n o : ℕ) (ps : List Process) → eqb o n ≡ false → firstOf o (keep (stays n) ps) ≡ firstOf o ps
-unfolding firstOf
-stays-first n o [] d = refl
-stays-first n o (p ∷ ps) d =
-    cases (has n p)
-    (λ e. let f : has o p ≡ false = ne-eqb (p .pid) o (λ (g : p .pid ≡ o). eqb-false o n d (sym g ∙ eqb-true (p .pid) n e)) in rw (e, f) (stays-first n o ps d))
-    (λ e. cases (has o p) (λ f. rw (e, f)) (λ f. rw (e, f) (stays-first n o ps d)))
-
-pub gone-masks : (n : ℕ) (f : Process → Process) → ((p : Process) → f p .pid ≡ p .pid) → (m after : Machine) → Ok m → after .procs ≡ keep (λ p. not (has n p)) (map f (m .procs))
-    → (mask (λ p. not (has n p) && wakesBy f p) (m .procs) ≡ wokenMask m after) × (mask (has n) (m .procs) ≡ endedMask m after)
+ends-masks : (n : ℕ) (m : Machine) → Ok m
+    → (mask (λ p. not (has n p) && wakesBy (granted (withoutOwner n (m .rows))) p) (m .procs) ≡ wokenMask m (ends n m)) × (mask (has n) (m .procs) ≡ endedMask m (ends n m))
 unfolding wokenMask endedMask lives processOf
-gone-masks n f same m after o e = (
+ends-masks n m o = (
   mask-alike _ _ 1 (m .procs) (m .next) up (λ j l.
       cases (has n (first j)) (λ h. rw (h, dead j h) (calm (sleeps (first j)) _)) (λ h. rw (h, live j l h, here j l h, and-true (sleeps (first j))))),
   mask-alike _ _ 1 (m .procs) (m .next) up (λ j l. cases (has n (first j)) (λ h. rw (h, dead j h)) (λ h. rw (h, live j l h))),
 )
   where
     first : ℕ → Process
-    first j = firstOf j (m .procs)
+    first = processOf m
 
     up : ascend 1 (pids (m .procs)) (m .next) ≡ true
     up = fit-ascend (pids (m .procs)) (m .next) (o .frame .fit)
@@ -295,28 +268,21 @@ gone-masks n f same m after o e = (
     calm true b = refl
     calm false b = refl
 
-    own : (j : ℕ) → member j (pids (m .procs)) ≡ true → member (first j .pid) (pids (m .procs)) ≡ true
-    own j l = ap (λ (k : ℕ). member k (pids (m .procs))) (first-pid j (m .procs) l) ∙ l
+    live : (j : ℕ) → lives m j ≡ true → has n (first j) ≡ false → lives (ends n m) (first j .pid) ≡ true
+    live j l h = ends-lives m (first j .pid) n (eqb-false (first j .pid) n h) (rw (live-pid m j l) l)
 
-    live : (j : ℕ) → member j (pids (m .procs)) ≡ true → has n (first j) ≡ false → member (first j .pid) (pids (after .procs)) ≡ true
-    live j l h = rw e (stays-alive n (first j .pid) (map f (m .procs)) h (rw (pids-map f same (m .procs)) (own j l)))
+    dead : (j : ℕ) → has n (first j) ≡ true → lives (ends n m) (first j .pid) ≡ false
+    dead j h = rw (eqb-true (first j .pid) n h) (ends-dead m n)
 
-    dead : (j : ℕ) → has n (first j) ≡ true → member (first j .pid) (pids (after .procs)) ≡ false
-    dead j h = ap (λ (k : ℕ). member k (pids (after .procs))) (eqb-true (first j .pid) n h) ∙ rw e (gone-dead n (map f (m .procs)))
-
-    here : (j : ℕ) → member j (pids (m .procs)) ≡ true → has n (first j) ≡ false → firstOf (first j .pid) (after .procs) ≡ f (first j)
-    here j l h =
-        rw e (stays-first n (first j .pid) (map f (m .procs)) h)
-        ∙ ap (λ (k : ℕ). firstOf k (map f (m .procs))) (first-pid j (m .procs) l) ∙ first-map f same j (m .procs) l
+    here : (j : ℕ) → lives m j ≡ true → has n (first j) ≡ false → processOf (ends n m) (first j .pid) ≡ granted (withoutOwner n (m .rows)) (first j)
+    here j l h = ends-process m (first j .pid) n (eqb-false (first j .pid) n h) ∙ ap (λ (k : ℕ). granted (withoutOwner n (m .rows)) (first k)) (live-pid m j l)
 
 -- what `end_process` gives, as an answer
 pub ended-settled : (s : State) {x : Stepped} (n : ℕ) (k : Kind) → Ok (view s) → Lays (x .state) (ends n (view s))
     × (x .answer ≡ masked (kindOf k) (mask (λ p. not (has n p) && wakesBy (granted (withoutOwner n (view s .rows))) p) (view s .procs)) (mask (has n) (view s .procs)))
     → x ≡ settled s (answered k 0 0 (ends n (view s)))
-unfolding ends gone rowsLeft
 ended-settled s {x} n k o h =
-    let rs = withoutOwner n (view s .rows) in
-    (λ j. record { answer = h .1 j; state = x .state }) ∙ settled-masked s k (h .0) (gone-masks n (granted rs) (granted-pid rs) (view s) (ends n (view s)) o refl)
+    (λ j. record { answer = h .1 j; state = x .state }) ∙ settled-masked s k (h .0) (ends-masks n (view s) o)
 
 -- ---- a signal comes to the process of a place
 
@@ -346,14 +312,6 @@ all-settle rows [] h = refl
 all-settle rows (p ∷ ps) h =
     let s = and-split (settles rows p) (all (settles rows) ps) h in
     rw (not-true (eqb (p .rest .sleep) 2 && isZero (length (waitingOf (p .pid) rows))) (s .0), all-settle rows ps (s .1))
-
-trapped-pid : (signal a : ℕ) (q : Process) → trapped signal a q .pid ≡ q .pid
-unfolding trapped roused
-trapped-pid signal a q = picked (λ (p : Process). p .pid ≡ q .pid) (sleeps q) (λ _. refl) (λ _. refl)
-
-trapped-awake : (signal a : ℕ) (q : Process) → trapped signal a q .rest .sleep ≡ 0
-unfolding trapped roused
-trapped-awake signal a q = picked (λ (p : Process). p .rest .sleep ≡ 0) (sleeps q) (λ _. refl) (λ e. eqb-true (q .rest .sleep) 0 (not-false _ e))
 
 module _ {s : State} {j : ℕ} {q : Process} (t : Target s j q) where
   pub target-lives : lives (view s) (q .pid) ≡ true
@@ -385,11 +343,6 @@ module _ {s : State} {j : ℕ} {q : Process} (t : Target s j q) where
       (trap-alone (trapped signal (reactionTo signal q) q) z (trapped-awake signal (reactionTo signal q) q))
 
 -- ---- the masks where one wakes
-
-first-here : (q : Process) (ps : List Process) → member (q .pid) (pids ps) ≡ true → firstOf (q .pid) (inPlace q ps) ≡ q
-unfolding firstOf inPlace
-first-here q [] h = absurd (false≢true h)
-first-here q (p ∷ ps) h = cases (has (q .pid) p) (λ e. rw (e, eq-eqb (q .pid) (q .pid) refl)) (λ e. rw (e, e) (first-here q ps (rw e at h)))
 
 mask-zero : (n : ℕ) (ps : List Process) → member n (pids ps) ≡ false → mask (has n) ps ≡ 0
 mask-zero n [] h = refl
@@ -430,7 +383,7 @@ wakes-one m after o q e l a z = (
     live j h = ap (λ (k : ℕ). member k (pids (after .procs))) (first-pid j (m .procs) h) ∙ rw (e, pids-put q (m .procs)) h
 
     here : (j : ℕ) → has (q .pid) (first j) ≡ true → firstOf (first j .pid) (after .procs) ≡ q
-    here j k = ap (λ (n : ℕ). firstOf n (after .procs)) (eqb-true (first j .pid) (q .pid) k) ∙ rw e (first-here q (m .procs) l)
+    here j k = ap (λ (n : ℕ). firstOf n (after .procs)) (eqb-true (first j .pid) (q .pid) k) ∙ rw e (first-own q (m .procs) l)
 
     slept : (j : ℕ) → member j (pids (m .procs)) ≡ true → has (q .pid) (first j) ≡ true → sleeps (first j) ≡ true
     slept j h k = ap (λ (n : ℕ). sleeps (first n)) (sym (first-pid j (m .procs) h) ∙ eqb-true (first j .pid) (q .pid) k) ∙ a
@@ -444,15 +397,9 @@ wakes-one m after o q e l a z = (
 
 -- it ended itself, or it lives on
 ended-lives : (n : ℕ) (m : Machine) (caller : ℕ) → lives m caller ≡ true → lives (ends n m) caller ≡ not (eqb n caller)
-unfolding lives ends gone rowsLeft
 ended-lives n m caller l =
-    let rs = withoutOwner n (m .rows) in
-    let ps = map (granted rs) (m .procs) in
-    cases (eqb n caller)
-    (λ e. rw (e, ← eqb-true n caller e) (gone-dead n ps))
-    (λ e.
-    let d : eqb caller n ≡ false = ne-eqb caller n (λ (f : caller ≡ n). eqb-false n caller e (sym f)) in
-    rw e (stays-alive n caller ps d (rw (pids-map (granted rs) (granted-pid rs) (m .procs)) l)))
+    cases (eqb n caller) (λ e. rw (e, ← eqb-true n caller e) (ends-dead m n))
+    (λ e. rw e (ends-lives m caller n (λ (f : caller ≡ n). eqb-false n caller e (sym f)) l))
 
 module _ {s : State} {j : ℕ} {q : Process} (t : Target s j q) (signal caller : ℕ) (l : lives (view s) caller ≡ true) where
   pub sent-ignored : reactionTo signal q ≡ 1 → answeredAs 0 0 s ≡ settled s (outlived caller (arrives signal (q .pid) (view s)))

@@ -2,7 +2,7 @@
 use Prim.Native.Nat.{ℕ, _+_}
 use native.Mathlib.Omega.{arith}
 use mathlib.Core.Path.{_≡_, refl, sym, ap, _∙_}
-use mathlib.Core.Bool.{Bool, true, false, not, _&&_, and-true, true≢false, false≢true}
+use mathlib.Core.Bool.{Bool, true, false, not, _&&_, and-true, true≢false}
 use mathlib.Core.List.{List, [], _∷_, map, map-append}
 use lib.Dec.{eqb, leb}
 use borrow.Author.Tests.{eqb-true, eq-eqb, ne-eqb}
@@ -10,7 +10,7 @@ use Rattle.locks.specs.Lists.{mask, member}
 use Rattle.locks.proofs.Tests.{cases, and-split, or-left, or-right}
 use Rattle.locks.proofs.Lists.{any-append}
 use Rattle.locks.specs.declared.rows.Row.{Row}
-use Rattle.rules.specs.State.{Machine, view, has, pids, sleeps, lives, firstOf, processOf, inPlace, granted, rowsLeft}
+use Rattle.rules.specs.State.{Machine, noProcess, newProcess, view, has, pids, sleeps, lives, firstOf, processOf, inPlace, granted, rowsLeft}
 use Rattle.rules.specs.Outcome.{Kind, kindOf, done, answered}
 use Rattle.rules.specs.Calls.{born}
 use Rattle.rules.specs.Sound.{ascend}
@@ -21,7 +21,7 @@ use Rattle.rules.proofs.Frame.{Ok, fit-ascend, below-first, pids-put, first-pid
 use Rattle.rules.specs.declared.state.Stepped.{Stepped}
 use Rattle.rules.proofs.States.{view-laid}
 use Rattle.rules.proofs.Rows.{granted-pid}
-use Rattle.rules.proofs.Places.{first-other, first-end}
+use Rattle.rules.proofs.Places.{first-map, first-other, first-end}
 use Rattle.processes.specs.Told.{answerOf}
 use Rattle.model.specs.Laid.{Lays, wakesBy, masked, settledAs}
 
@@ -86,17 +86,10 @@ born-masks c m o =
 
 -- ---- each changed in its place
 
-pub first-map : (f : Process → Process) → ((p : Process) → f p .pid ≡ p .pid) → (n : ℕ) (ps : List Process) → member n (pids ps) ≡ true → firstOf n (map f ps) ≡ f (firstOf n ps)
-unfolding firstOf
-first-map f k n [] h = absurd (false≢true h)
-first-map f k n (p ∷ ps) h =
-    let same : has n (f p) ≡ has n p = ap (λ (j : ℕ). eqb j n) (k p) in
-    cases (has n p) (λ e. rw (same, e)) (λ e. rw (same, e) (first-map f k n ps (rw e at h)))
-
-pub map-masks : (f : Process → Process) → ((p : Process) → f p .pid ≡ p .pid) → (m after : Machine) → Ok m → after .procs ≡ map f (m .procs)
+pub map-masks : (f : Process → Process) → ((p : Process) → f p .pid ≡ p .pid) → f noProcess ≡ noProcess → (m after : Machine) → Ok m → after .procs ≡ map f (m .procs)
     → (mask (wakesBy f) (m .procs) ≡ wokenMask m after) × (0 ≡ endedMask m after)
 unfolding wokenMask endedMask lives processOf
-map-masks f k m after o e = (
+map-masks f k z m after o e = (
   mask-alike _ _ 1 (m .procs) (m .next) up (λ n l. rw (live n l, here n l, and-true (sleeps (firstOf n (m .procs))))),
   sym (mask-none _ 1 (m .procs) (m .next) up (λ n l. rw (live n l))),
 )
@@ -108,7 +101,7 @@ map-masks f k m after o e = (
     live n l = ap (λ (j : ℕ). member j (pids (after .procs))) (first-pid n (m .procs) l) ∙ rw (e, pids-map f k (m .procs)) l
 
     here : (n : ℕ) → member n (pids (m .procs)) ≡ true → firstOf (firstOf n (m .procs) .pid) (after .procs) ≡ f (firstOf n (m .procs))
-    here n l = ap (λ (j : ℕ). firstOf j (after .procs)) (first-pid n (m .procs) l) ∙ rw e (first-map f k n (m .procs) l)
+    here n l = ap (λ (j : ℕ). firstOf j (after .procs)) (first-pid n (m .procs) l) ∙ rw e (first-map f k z n (m .procs))
 
 -- ---- the answer
 
@@ -127,6 +120,6 @@ settled-masked s k l h = rw (h .0, h .1, l .is)
 -- rows go and nothing else
 pub left-settled : (s : State) {x : Stepped} (rows : List Row) → Ok (view s) → Lays (x .state) (rowsLeft rows (view s)) × (x .answer ≡ masked 0 (mask (wakesBy (granted rows)) (view s .procs)) 0)
     → x ≡ settled s (answered done 0 0 (rowsLeft rows (view s)))
-unfolding rowsLeft
+unfolding rowsLeft granted noProcess newProcess
 left-settled s {x} rows o h =
-    (λ j. record { answer = h .1 j; state = x .state }) ∙ settled-masked s done (h .0) (map-masks (granted rows) (granted-pid rows) (view s) (rowsLeft rows (view s)) o refl)
+    (λ j. record { answer = h .1 j; state = x .state }) ∙ settled-masked s done (h .0) (map-masks (granted rows) (granted-pid rows) refl (view s) (rowsLeft rows (view s)) o refl)

@@ -13,7 +13,7 @@ use Rattle.locks.specs.Lists.{any, mask, member, isZero}
 use Rattle.locks.specs.declared.rows.Row.{Row}
 use Rattle.locks.proofs.Tests.{cases, and-split, or-off}
 use Rattle.locks.proofs.Lists.{any-end, any-append}
-use Rattle.rules.specs.State.{Machine, view, has, pids, firstOf, processOf, inPlace, put, each, withAlarm}
+use Rattle.rules.specs.State.{Machine, noProcess, newProcess, view, has, pids, firstOf, processOf, inPlace, put, each, withAlarm}
 use Rattle.rules.specs.Signals.{arrives}
 use Rattle.rules.specs.Clock.{slept, rings, alarms, ticked}
 use Rattle.rules.specs.Outcome.{done, answered}
@@ -167,11 +167,11 @@ module _ (p : Process) where
 
 pub second-settled : (s : State) {t : State} {a : Answer} {w : ℕ} → Lays s (view s) → soundMachine (view s) ≡ true → any due (s .procs) ≡ false → Lays t (each second (view s)) → w ≡ mask (wakesBy second) (view s .procs) → a ≡ masked 0 w 0
     → record { answer = a; state = t } ≡ settled s (answered done 0 0 (ticked (view s)))
-unfolding view each
+unfolding view each slept noProcess newProcess
 second-settled s {t} {a} {w} l k d h e g =
     let o = machine-ok l k in
     let q : ticked (view s) ≡ each second (view s) = ticked-quiet (view s) o (any-take due (s .live) (s .procs) d) in
-    let m = map-masks second slept-pid (view s) (each second (view s)) o refl in
+    let m = map-masks second slept-pid refl (view s) (each second (view s)) o refl in
     (λ j. record { answer = g j; state = t }) ∙ rw q (settled-masked s done h (e ∙ m .0, m .1))
 
 -- ---- the next alarm, where it is on

@@ -206,6 +206,9 @@ passes : {s : State} {e : Event} {m : Machine} (us vs : List Step) → During s 
 passes [] vs d = d
 passes (t ∷ us) vs d = passes us vs (goes d)
 
-pub steps-lead : StepsLead
-steps-lead s r e =
+leads : (s : State) → Reached s → (e : Event) → During s e (view (stepOf s e .state)) []
+leads s r e =
     subst (λ m. During s e m []) (passed-all s r e) (passes (stepsOf e (view s)) [] (subst (λ ts. During s e (view s) ts) (sym (append-nil (stepsOf e (view s)))) begins))
+
+pub steps-lead : StepsLead
+steps-lead = record { lead = leads; ascending = λ s r. fit-ascend (pids (view s .procs)) (view s .next) (ok-view s (reached-sound r) .frame .fit) }

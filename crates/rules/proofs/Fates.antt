@@ -15,7 +15,7 @@ use Rattle.locks.proofs.Lists.{all-mono, any-parts, keep-some, keep-none, sift-
 use Rattle.locks.proofs.Fewer.{Fewer, fewer-sift, fewer-any, fewer-keep, fewer-end, fewer-waiting-behind}
 use Rattle.rules.specs.State
 use Rattle.rules.specs.State.{Machine, forLock, byGrant, wokenBy, lives, processOf}
-use Rattle.rules.specs.Demands.{Sleeper, inWay, leavers, Left, WaitsOn, Granted, Signalled, Fate}
+use Rattle.rules.specs.Demands.{Step, Sleeper, inWay, leavers, Left, WaitsOn, Granted, Signalled, Fate}
 use Rattle.rules.specs.declared.state.Process.{Process}
 use Rattle.rules.proofs.Frame.{Ok, live-pid}
 use Rattle.rules.proofs.Queue.{twin-owner, twin-refl, in-way, Stand, waiting-at, place, owner, blocked, set-apart, no-twin, way}
@@ -78,7 +78,7 @@ granted-of : (n : ℕ) (rows : List Row) (p : Process) → p .pid ≡ n → p .r
 unfolding State.granted
 granted-of n rows p i z = rw (eq-eqb (p .rest .sleep) forLock z) (ap (λ (k : ℕ). cond (isZero (length (waitingOf k rows))) (wokenBy byGrant 0 p) p) i)
 
-module _ (m : Machine) (n : ℕ) (r : Row) (o : Ok m) (s : Sleeper m n r) (m′ : Machine) where
+module _ (t : Step) (m : Machine) (n : ℕ) (r : Row) (o : Ok m) (s : Sleeper m n r) (m′ : Machine) where
   abbrev stood : Stand n [] (m .rows) r
   stood = place m n r o s
 
@@ -118,7 +118,7 @@ module _ (m : Machine) (n : ℕ) (r : Row) (o : Ok m) (s : Sleeper m n r) (m′ 
       ap (waitingOf n) (a .place)
       ∙ waiting-at n front r (a .back) (owner m n r o s) (rw (stood .free-before) at (fewer-waiting-behind n Fewer.nil (fewer-keep stands (stood .before)))) (a .free)
 
-  waits-on : After → waits front r ≡ true → lives m′ n ≡ true → processOf m′ n .rest .sleep ≡ forLock → Fate m m′ n r
+  waits-on : After → waits front r ≡ true → lives m′ n ≡ true → processOf m′ n .rest .sleep ≡ forLock → Fate t m m′ n r
   unfolding waits
   waits-on a e l z =
       Fate.waitsOn (record {
@@ -127,7 +127,7 @@ module _ (m : Machine) (n : ℕ) (r : Row) (o : Ok m) (s : Sleeper m n r) (m′ 
         some = rw (ahead a) (keep-some (conflict r) front e);
       })
 
-  wakes : After → waits front r ≡ false → lives m′ n ≡ true → processOf m′ n ≡ wokenBy byGrant 0 (processOf m n) → Fate m m′ n r
+  wakes : After → waits front r ≡ false → lives m′ n ≡ true → processOf m′ n ≡ wokenBy byGrant 0 (processOf m n) → Fate t m m′ n r
   unfolding waits
   wakes a e l w =
       Fate.granted (record {
@@ -141,7 +141,7 @@ module _ (m : Machine) (n : ℕ) (r : Row) (o : Ok m) (s : Sleeper m n r) (m′ 
 
   -- no row goes, and none of the new ones is a row of n that waits
   none-goes : (new : List Row) → m′ .rows ≡ m .rows ++ new → ((ahead : List Row) → length (sift (waitsOf n) ahead new) ≤ 0)
-      → lives m′ n ≡ true → processOf m′ n .rest .sleep ≡ forLock → Fate m m′ n r
+      → lives m′ n ≡ true → processOf m′ n .rest .sleep ≡ forLock → Fate t m m′ n r
   none-goes new e f l z =
       let whole = e ∙ ap (λ (l : List Row). l ++ new) (stood .place) ∙ append-assoc (stood .before) (r ∷ stood .behind) new in
       let stand = subst (λ (l : List Row). all (λ q. hasTwin q l) (stood .before) ≡ true) (sym whole) (front-stands (stood .before) (r ∷ stood .behind ++ new)) in
@@ -156,15 +156,15 @@ module _ (m : Machine) (n : ℕ) (r : Row) (o : Ok m) (s : Sleeper m n r) (m′ 
       })
       (rw same (blocked m n r o s)) l z
 
-  pub still : m′ .rows ≡ m .rows → lives m′ n ≡ true → processOf m′ n .rest .sleep ≡ forLock → Fate m m′ n r
+  pub still : m′ .rows ≡ m .rows → lives m′ n ≡ true → processOf m′ n .rest .sleep ≡ forLock → Fate t m m′ n r
   still e l z = none-goes [] (rw append-nil e) (λ _. zero-le) l z
 
-  pub row-comes : (q : Row) → m′ .rows ≡ m .rows ++ q ∷ [] → (q .owner ≡ n → ⊥) → lives m′ n ≡ true → processOf m′ n .rest .sleep ≡ forLock → Fate m m′ n r
+  pub row-comes : (q : Row) → m′ .rows ≡ m .rows ++ q ∷ [] → (q .owner ≡ n → ⊥) → lives m′ n ≡ true → processOf m′ n .rest .sleep ≡ forLock → Fate t m m′ n r
   unfolding waitsOf
   row-comes q e d l z = none-goes (q ∷ []) e (λ _. rw (ne-eqb (q .owner) n d) zero-le) l z
 
   -- rows of another go: the sleeper wakes if none is in its way any more
-  pub rows-go : (k : ℕ) → (n ≡ k → ⊥) → Cut k (m′ .rows) (m .rows) → lives m′ n ≡ true → processOf m′ n ≡ State.granted (m′ .rows) (processOf m n) → Fate m m′ n r
+  pub rows-go : (k : ℕ) → (n ≡ k → ⊥) → Cut k (m′ .rows) (m .rows) → lives m′ n ≡ true → processOf m′ n ≡ State.granted (m′ .rows) (processOf m n) → Fate t m m′ n r
   rows-go k d c l g =
       cases (waits front r) (λ e. waits-on a e l (ap (λ (p : Process). p .rest .sleep) (rw (waiting a, e) at now) ∙ s .asleep))
       (λ e. wakes a e l (rw (waiting a, e) at now))
@@ -198,12 +198,12 @@ module _ (m : Machine) (n : ℕ) (r : Row) (o : Ok m) (s : Sleeper m n r) (m′ 
 pub not-granted : {m m′ : Machine} {n : ℕ} {r : Row} → WaitsOn m m′ n r → Granted m m′ n r → ⊥
 not-granted w g = let e = ap length (g .none) in let l = w .some in omega arith
 
-pub not-signalled : {m m′ : Machine} {n : ℕ} {r : Row} → WaitsOn m m′ n r → Signalled m m′ n r → ⊥
+pub not-signalled : {t : Step} {m m′ : Machine} {n : ℕ} {r : Row} → WaitsOn m m′ n r → Signalled t m m′ n r → ⊥
 unfolding hasTwin waitingOf
 not-signalled {m′ = m′} {n = n} {r = r} w g =
     true≢false (sym (fewer-any (twin r) (fewer-sift (waitsOf n) [] (m′ .rows)) (rw (w .sleeper .waiting, twin-refl r))) ∙ g .gone)
 
-pub not-both : {m m′ : Machine} {n : ℕ} {r : Row} → Granted m m′ n r → Signalled m m′ n r → ⊥
+pub not-both : {t : Step} {m m′ : Machine} {n : ℕ} {r : Row} → Granted m m′ n r → Signalled t m m′ n r → ⊥
 unfolding hasTwin
 not-both {r = r} g s =
     let h = g .held in

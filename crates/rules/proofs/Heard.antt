@@ -14,7 +14,7 @@ use Rattle.locks.proofs.Lists.{any-append, sift-append}
 use Rattle.locks.proofs.Fewer.{Fewer, fewer-sift, fewer-none}
 use Rattle.rules.specs.State.{Machine, abort, ignore, forLock, bySignal, reactionTo, lives, processOf, put, granted, rowsLeft}
 use Rattle.rules.specs.Signals.{gone, ends, roused, trapped, reacts, arrives}
-use Rattle.rules.specs.Demands.{Sleeper, Fate, signalled}
+use Rattle.rules.specs.Demands.{Step, Sleeper, Sends, Fate, signalled}
 use Rattle.rules.specs.declared.state.Process.{Process}
 use Rattle.rules.proofs.Frame.{Ok, live-pid}
 use Rattle.rules.proofs.Arrivals.{trapped-awake, granted-awake}
@@ -35,7 +35,7 @@ trapped-wake sig a p e = rw e
 none-fewer : (f : Row → Bool) {xs ys : List Row} → Fewer xs ys → any f ys ≡ false → any f xs ≡ false
 none-fewer f {xs} t h = not-true (any f xs) (fewer-none f t (rw h))
 
-module _ (m : Machine) (n : ℕ) (r : Row) (o : Ok m) (s : Sleeper m n r) where
+module _ (t : Step) (m : Machine) (n : ℕ) (r : Row) (o : Ok m) (s : Sleeper m n r) where
   no-rows : hasTwin r (withoutOwner n (m .rows)) ≡ false
   unfolding hasTwin withoutOwner
   no-rows = none-kept (owns n) (twin r) (λ q t. eq-eqb (q .owner) n (sym (twin-owner r q t) ∙ Queue.owner m n r o s)) (m .rows)
@@ -52,21 +52,21 @@ module _ (m : Machine) (n : ℕ) (r : Row) (o : Ok m) (s : Sleeper m n r) where
 
   -- ---- nothing changes
 
-  pub fate-same : Fate m m n r
-  fate-same = Fates.still m n r o s m refl (s .lives) (s .asleep)
+  pub fate-same : Fate t m m n r
+  fate-same = Fates.still t m n r o s m refl (s .lives) (s .asleep)
 
   -- ---- it arrives at another
 
-  pub fate-ends : (k : ℕ) → (n ≡ k → ⊥) → Fate m (ends k m) n r
+  pub fate-ends : (k : ℕ) → (n ≡ k → ⊥) → Fate t m (ends k m) n r
   unfolding ends gone rowsLeft
-  fate-ends k d = Fates.rows-go m n r o s (ends k m) k d (cut-owner k (m .rows)) (ends-lives m n k d (s .lives)) (ends-process m n k d)
+  fate-ends k d = Fates.rows-go t m n r o s (ends k m) k d (cut-owner k (m .rows)) (ends-lives m n k d (s .lives)) (ends-process m n k d)
 
   -- rows of k go from a machine with n's process as it was
-  pub fate-left : (k : ℕ) (w : Machine) (rows : List Row) → (n ≡ k → ⊥) → Cut k rows (m .rows) → lives w n ≡ true → processOf w n ≡ processOf m n → Fate m (rowsLeft rows w) n r
+  pub fate-left : (k : ℕ) (w : Machine) (rows : List Row) → (n ≡ k → ⊥) → Cut k rows (m .rows) → lives w n ≡ true → processOf w n ≡ processOf m n → Fate t m (rowsLeft rows w) n r
   unfolding rowsLeft
-  fate-left k w rows d c l e = Fates.rows-go m n r o s (rowsLeft rows w) k d c (left-lives w n rows ∙ l) (left-process w n rows ∙ ap (granted rows) e)
+  fate-left k w rows d c l e = Fates.rows-go t m n r o s (rowsLeft rows w) k d c (left-lives w n rows ∙ l) (left-process w n rows ∙ ap (granted rows) e)
 
-  fate-other : (sig k : ℕ) → (n ≡ k → ⊥) → Fate m (arrives sig k m) n r
+  fate-other : (sig k : ℕ) → (n ≡ k → ⊥) → Fate t m (arrives sig k m) n r
   unfolding arrives reacts
   fate-other sig k d =
       picked Fated (eqb a ignore) (λ _. fate-same)
@@ -83,19 +83,20 @@ module _ (m : Machine) (n : ℕ) (r : Row) (o : Ok m) (s : Sleeper m n r) where
       q = trapped sig a (processOf m k)
 
       Fated : Machine → Type 0
-      Fated w = Fate m w n r
+      Fated w = Fate t m w n r
 
   -- ---- it arrives at the sleeper
 
-  fate-own : (sig : ℕ) → Fate m (arrives sig n m) n r
+  fate-own : (sig : ℕ) → Sends t sig n → Fate t m (arrives sig n m) n r
   unfolding arrives reacts ends gone rowsLeft
-  fate-own sig =
+  fate-own sig sent =
       picked Fated (eqb a ignore) (λ _ _. fate-same)
       (λ h.
-      picked Fated (eqb a abort) (λ _ e. signalled (record { signal = sig; arrived = e; heard = eqb-false a ignore h; gone = no-rows; ended = inl (ends-dead m n) }))
+      picked Fated (eqb a abort) (λ _ e. signalled (record { signal = sig; sent = sent; arrived = e; heard = eqb-false a ignore h; gone = no-rows; ended = inl (ends-dead m n) }))
       (λ _ e.
       signalled (record {
         signal = sig;
+        sent = sent;
         arrived = e;
         heard = eqb-false a ignore h;
         gone = no-waiting;
@@ -124,9 +125,9 @@ module _ (m : Machine) (n : ℕ) (r : Row) (o : Ok m) (s : Sleeper m n r) where
           ∙ granted-awake left q (trapped-awake sig a (processOf m n))
 
       Fated : Machine → Type 0
-      Fated w = w ≡ arrives sig n m → Fate m w n r
+      Fated w = w ≡ arrives sig n m → Fate t m w n r
 
-  pub fate-arrives : (sig k : ℕ) → Fate m (arrives sig k m) n r
-  fate-arrives sig k =
-      cases (eqb k n) (λ e. subst (λ (j : ℕ). Fate m (arrives sig j m) n r) (sym (eqb-true k n e)) (fate-own sig))
+  pub fate-arrives : (sig k : ℕ) → Sends t sig k → Fate t m (arrives sig k m) n r
+  fate-arrives sig k sent =
+      cases (eqb k n) (λ e. subst (λ (j : ℕ). Fate t m (arrives sig j m) n r) (sym (eqb-true k n e)) (fate-own sig (subst (λ (j : ℕ). Sends t sig j) (eqb-true k n e) sent)))
       (λ e. fate-other sig k (λ (f : n ≡ k). eqb-false k n e (sym f)))

@@ -18,6 +18,7 @@ pub mod Heard
 pub mod Steps
 pub mod Asked
 pub mod Shown
+pub mod Ways
 pub mod Sleepers
 pub mod Order
 pub mod Pigeons

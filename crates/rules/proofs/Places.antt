@@ -91,6 +91,11 @@ first-arrives P s k n m grants none trap h =
 pub first-other : (q : Process) (n : ℕ) (ps : List Process) → eqb (q .pid) n ≡ false → firstOf n (inPlace q ps) ≡ firstOf n ps
 first-other q n ps d = first-put (λ p. p ≡ firstOf n ps) q n ps (λ (e : q .pid ≡ n). absurd (eqb-false (q .pid) n d e)) refl
 
+pub first-own : (q : Process) (ps : List Process) → member (q .pid) (pids ps) ≡ true → firstOf (q .pid) (inPlace q ps) ≡ q
+unfolding firstOf inPlace
+first-own q [] h = absurd (false≢true h)
+first-own q (p ∷ ps) h = cases (has (q .pid) p) (λ e. rw (e, eq-eqb (q .pid) (q .pid) refl)) (λ e. rw (e, e) (first-own q ps (rw e at h)))
+
 pub first-end : (c : Process) (n : ℕ) (ps : List Process) → member n (pids ps) ≡ true → firstOf n (ps ++ c ∷ []) ≡ firstOf n ps
 unfolding firstOf
 first-end c n [] h = absurd (false≢true h)
@@ -125,14 +130,8 @@ module _ (m : Machine) (n : ℕ) where
   put-other q d = first-other q n (m .procs) (ne-eqb (q .pid) n d)
 
   pub put-own : (q : Process) → q .pid ≡ n → lives m n ≡ true → processOf (put q m) n ≡ q
-  unfolding lives firstOf processOf put inPlace
-  put-own q e l = go (m .procs) l
-    where
-      go : (ps : List Process) → member n (pids ps) ≡ true → firstOf n (inPlace q ps) ≡ q
-      go [] h = absurd (false≢true h)
-      go (p ∷ ps) h =
-          let same : has (q .pid) p ≡ has n p = ap (eqb (p .pid)) e in
-          cases (has n p) (λ f. rw (same, f, eq-eqb (q .pid) n e)) (λ f. rw (same, f, f) (go ps (rw f at h)))
+  unfolding lives processOf put
+  put-own q e l = rw (← e) (first-own q (m .procs) (rw e l))
 
   -- ---- one ends
 

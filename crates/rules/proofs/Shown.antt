@@ -12,7 +12,7 @@ use Rattle.locks.specs.Lists.{all, mask, member, bit, isZero}
 use Rattle.locks.specs.Rows.{waitingOf}
 use Rattle.locks.specs.declared.rows.Row.{Row}
 use Rattle.locks.proofs.Tests.{cases, picked, off, and-split}
-use Rattle.locks.proofs.Lists.{some-any}
+use Rattle.locks.proofs.Lists.{any-some, some-any}
 use Rattle.rules.specs.State.{Machine, view, forLock, forTime, pids, noProcess, newProcess, sleeps, withAlarm, lives, firstOf, processOf, put, each, granted}
 use Rattle.rules.specs.Outcome.{badstate, Outcome, refused, answered, when, either}
 use Rattle.rules.specs.Clock.{slept}
@@ -161,15 +161,27 @@ settled-woken s (when false r o) n h k = settled-woken s o n h k
 settled-woken s (either true x y) n h k = settled-woken s x n h k
 settled-woken s (either false x y) n h k = settled-woken s y n h k
 
+-- whoever sleeps lives
+asleep-lives : (m : Machine) (n : ℕ) → sleeps (processOf m n) ≡ true → lives m n ≡ true
+asleep-lives m n h = cases (lives m n) (λ l. l) (λ d. absurd (none-sleeps (rw (dead-process m n d) at h)))
+
 -- whoever sleeps before the event, and lives and is awake after it
 shows : (s : State) (e : Event) (n : ℕ) → sound s ≡ true → sleeps (processOf (view s) n) ≡ true → lives (view (stepOf s e .state)) n ≡ true → sleeps (processOf (view (stepOf s e .state)) n) ≡ false
     → ShowsWoken s e n
-unfolding stepOf wokenMask processOf noProcess newProcess
-shows s e n k asleep alive woke i l h =
+unfolding stepOf wokenMask lives processOf noProcess newProcess
+shows s e n k asleep alive woke =
     let ps = view s .procs in
-    let here : firstOf n ps ≡ getD ps i noProcess = first-at 1 ps (view s .next) i n noProcess (fit-ascend (pids ps) (view s .next) (ok-view s k .frame .fit)) l h in
-    let pid : getD ps i noProcess .pid ≡ n = sym (List·getD-map (λ p. p .pid) ps i noProcess) ∙ h in
-    rw (settled-woken s (when (not (sound s)) badstate (outcome e (view s))) n asleep woke, bit-mask _ ps i noProcess l, pid, ← here, asleep, alive, woke)
+    let at = any-some (λ j. eqb j n) (pids ps) 0 (asleep-lives (view s) n asleep) in
+    let h : getD (pids ps) (at .at) 0 ≡ n = eqb-true _ n (at .passes) in
+    let l : at .at < length ps = rw length-map at (at .inside) in
+    let here : firstOf n ps ≡ getD ps (at .at) noProcess = first-at 1 ps (view s .next) (at .at) n noProcess (fit-ascend (pids ps) (view s .next) (ok-view s k .frame .fit)) l h in
+    let pid : getD ps (at .at) noProcess .pid ≡ n = sym (List·getD-map (λ p. p .pid) ps (at .at) noProcess) ∙ h in
+    record {
+      i = at .at;
+      inside = l;
+      place = h;
+      woken = rw (settled-woken s (when (not (sound s)) badstate (outcome e (view s))) n asleep woke, bit-mask _ ps (at .at) noProcess l, pid, ← here, asleep, alive, woke);
+    }
 
 pub grant-shown : {m : Machine} {t : Step} {ts : List Step} (o : Occurs m (t ∷ ts)) (n : ℕ) (r : Row) → Sleeper m n r → Granted m (after t m) n r
     → lives (view (stepOf (o .state) (o .event) .state)) n ≡ true → ShowsWoken (o .state) (o .event) n

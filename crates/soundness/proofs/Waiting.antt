@@ -1,5 +1,5 @@
 -- The rows that wait, found in one pass over the rows. Assumes nothing.
-use Prim.Native.Nat.{ℕ, zero, suc, _+_, _-_, _≤_, _<_}
+use Prim.Native.Nat.{ℕ, _+_, _-_, _≤_, _<_}
 use native.Mathlib.Nat.{not-suc-le-zero}
 use native.Mathlib.Omega.{arith}
 use native.Mathlib.Numerals.{add-one}
@@ -13,8 +13,8 @@ use borrow.Author.Tests.{eqb-true, eqb-false}
 use Rattle.locks.specs.Lists.{any, all, keep, sift, padded}
 use Rattle.locks.specs.Rows.{twin, waits, waitsOf, waitingOf, apart}
 use Rattle.locks.specs.declared.rows.Row.{Row}
-use Rattle.locks.proofs.Tests.{cases, off, and-split}
-use Rattle.locks.proofs.Lists.{any-end, all-end}
+use Rattle.locks.proofs.Tests.{cases, off}
+use Rattle.locks.proofs.Lists.{any-end, all-end, all-at}
 use Rattle.locks.proofs.Loops.{Walk, walk-start, walk-next, walk-end, in-list, done-length, padded-more, sifted, sifted-more, sifted-same, sifted-room}
 use Rattle.rules.specs.Sound.{lockFits, soundProcess}
 use Rattle.rules.specs.declared.state.Process.{Process}
@@ -96,11 +96,6 @@ watched-none rows used h l = record {
 pub refused : (rows : List Row) {owners every : List ℕ} → (all fitRow rows && apart rows) ≡ false → Waiting rows (record { apart = false; count = 0; owners = owners; all = every })
 refused rows h = record { alone = sym h; few = omega arith; them = λ e. absurd (false≢true e); everyone = λ e. absurd (false≢true e) }
 
-all-get : {A : Type 0} (f : A → Bool) (xs : List A) (d : A) (i : ℕ) → all f xs ≡ true → i < length xs → f (getD xs i d) ≡ true
-all-get f [] d i h l = absurd (not-suc-le-zero l)
-all-get f (x ∷ xs) d zero h l = and-split (f x) (all f xs) h .0
-all-get f (x ∷ xs) d (suc i) h l = all-get f xs d i (and-split (f x) (all f xs) h .1) (omega arith)
-
 module _ {rows : List Row} {used i : ℕ} {seen : List Bool} {lows highs lens : List ℕ} {shared : List Bool} {every owners : List ℕ} {count : ℕ}
     (p : Watched rows used i seen lows highs lens shared every owners count) where
   module _ (l : i < used) where
@@ -113,7 +108,7 @@ module _ {rows : List Row} {used i : ℕ} {seen : List Bool} {lows highs lens : 
         let k : all fitRow (take used rows) ≡ false =
         off (all fitRow (take used rows))
         (λ h.
-        false≢true (sym e ∙ sym (ap fitRow (getD-take used rows i blank l)) ∙ all-get fitRow (take used rows) blank i h (rw (length-take-le used rows n) l))) in
+        false≢true (sym e ∙ sym (ap fitRow (getD-take used rows i blank l)) ∙ all-at fitRow (take used rows) blank i (rw (length-take-le used rows n) l) h)) in
         rw k
 
     pub twin-found : any (twin (getD rows i blank)) (take i rows) ≡ true → (all fitRow (take used rows) && apart (take used rows)) ≡ false

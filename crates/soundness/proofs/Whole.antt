@@ -19,6 +19,7 @@ use Rattle.rules.specs.State.{pids, view}
 use Rattle.rules.specs.Sound.{zeroProcess, pidsFit, soundProcess, sound, soundMachine}
 use Rattle.rules.specs.declared.state.Process.{Process}
 use Rattle.rules.specs.declared.state.State.{State}
+use Rattle.rules.proofs.Sleepers.{sound-owner}
 use Rattle.soundness.specs.Waiting.{fitRow, ownerOf}
 use Rattle.soundness.proofs.Loops.{left-none, Passing, first, pass, fail, passed}
 use Rattle.soundness.proofs.Laws.{take-pids}
@@ -49,12 +50,6 @@ module _ (ns : List ℕ) (r : Row) where
       let s = and-split (between 1 16 (r .len) && member (r .owner) ns) (all isZero (drop (r .len) (r .bytes))) h in
       and-join (between 1 16 (r .len)) (all isZero (drop (r .len) (r .bytes))) (and-split (between 1 16 (r .len)) (member (r .owner) ns) (s .0) .0) (s .1)
 
-  row-owned : soundRow ns r ≡ true → member (r .owner) ns ≡ true
-  unfolding soundRow
-  row-owned h =
-      let s = and-split (between 1 16 (r .len) && member (r .owner) ns) (all isZero (drop (r .len) (r .bytes))) h in
-      and-split (between 1 16 (r .len)) (member (r .owner) ns) (s .0) .1
-
   row-sound : fitRow r ≡ true → member (r .owner) ns ≡ true → soundRow ns r ≡ true
   unfolding soundRow fitRow
   row-sound h k = let s = and-split (between 1 16 (r .len)) (all isZero (drop (r .len) (r .bytes))) h in rw (s .0, k) (s .1)
@@ -80,7 +75,7 @@ module _ (s : State) where
         zero-rows = f .1;
         pids-fit = rw take-pids (k .0);
         rows = and-join (all fitRow rs) (apart rs) (all-mono (soundRow ns) fitRow (row-fit ns) rs (k .1)) (j .1);
-        owned = rw take-pids (all-mono (soundRow ns) (λ r. member (r .owner) ns) (row-owned ns) rs (k .1));
+        owned = rw take-pids (all-mono (soundRow ns) (λ r. member (r .owner) ns) (sound-owner ns) rs (k .1));
         procs = i .1;
       }
 
