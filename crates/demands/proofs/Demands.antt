@@ -1,11 +1,12 @@
 -- Demands 1 and 2 are met. Assumes nothing.
-use Prim.Native.Nat.{ℕ, _+_, _*_}
+use Prim.Native.Nat.{ℕ, _+_, _-_, _*_, _≤_}
 use native.Mathlib.Omega.{arith}
 use mathlib.Core.Path.{_≡_, refl, sym, ap, _∙_}
 use mathlib.Core.Bool.{true}
 use mathlib.Core.List.{List, [], _∷_, _++_, map}
 use lib.ListN.{length, take, drop}
 use lib.Dec.{ltb}
+use borrow.Author.Tests.{le-ltb}
 use lib.Seq.{take-append-seam, drop-append-seam}
 use Rattle.locks.proofs.Tests.{cases}
 use Rattle.rules.specs.State.{laid, fresh}
@@ -22,9 +23,11 @@ use Rattle.papers.specs.Events.{eventsOf}
 use Rattle.papers.specs.Answers.{answerBytes, placesOf}
 use Rattle.papers.specs.declared.layout.Read.{Read}
 use Rattle.papers.specs.declared.layout.Read.the-variants as read
-use Rattle.papers.proofs.Files.{some as counted, paper-count}
-use Rattle.marker.specs.Key.{answersFrom, keyPlaces, keyOf, keyedFor, keyed}
-use Rattle.marker.specs.Mark.{rightPlaces, markedFor, marked}
+use Rattle.papers.proofs.Files.{paper-count, sheet-counts}
+use Rattle.papers.proofs.Sheets.{made-fits, made-count}
+use Rattle.marker.specs.Promises.{KeyListed, writes as keyWrites, refused as keyRefused}
+use Rattle.marker.specs.Key.{joined, answersFrom, keyPlaces, keyOf, keyedFor, keyed}
+use Rattle.marker.specs.Mark.{rightPlaces, marked}
 use Rattle.marker.specs.declared.keys.Keyed.{Keyed}
 use Rattle.marker.specs.declared.keys.Keyed.the-variants as key
 use Rattle.marker.specs.declared.marks.Marked.the-variants as mark
@@ -151,29 +154,41 @@ no-key : (p buffer : List ℕ) (n : ℕ) → paperOf p ≡ read.Refused n → ke
 unfolding keyed
 no-key p buffer n e = rw e
 
-right-is : (p s : List ℕ) (total right missing surplus : ℕ) → mark.Mark total right missing surplus ≡ marked p s
-    → right ≡ rightPlaces (map answerBytes (answersFrom (laid fresh) (eventsOf p))) (placesOf s)
+marked-is : (p s : List ℕ) (total answers : ℕ) → paperOf p ≡ read.Count total → sheetOf s ≡ read.Count answers
+    → marked p s ≡ mark.Mark total (rightPlaces (map answerBytes (answersFrom (laid fresh) (eventsOf p))) (placesOf s)) (total - answers) (answers - total)
 unfolding marked keyPlaces
-right-is p s total right missing surplus e = go (paperOf p) (sheetOf s) e
-  where
-    n : ℕ
-    n = rightPlaces (map answerBytes (answersFrom (laid fresh) (eventsOf p))) (placesOf s)
+marked-is p s total answers e f = rw (e, f)
 
-    go : (x y : Read) → mark.Mark total right missing surplus ≡ markedFor x y n → right ≡ n
-    go (read.Refused k) y e = let z : _≡_ {A = ℕ} 0 1 = cc in absurd (omega arith)
-    go (read.Count t) (read.Refused k) e = let z : _≡_ {A = ℕ} 0 1 = cc in absurd (omega arith)
-    go (read.Count t) (read.Count a) e = cc
+keyed-is : (p buffer : List ℕ) (n : ℕ) → paperOf p ≡ read.Count n → 6 + 16 * n ≤ length buffer → keyed p buffer .0 ≡ key.Written (6 + 16 * n)
+unfolding keyed
+keyed-is p buffer n e h = rw (e, le-ltb (length buffer) (6 + 16 * n) h)
+
+long-most : {room n : ℕ} {x : Keyed} → KeyListed room x → x ≡ key.Written n → n ≤ 16006
+long-most {n = n} (keyWrites k a b c) e = let l : 6 + 16 * k ≡ n = cc in omega arith
+long-most (keyRefused r d) e = let z : _≡_ {A = ℕ} 0 1 = cc in absurd (omega arith)
+
+sheet-is : (p buffer : List ℕ) (n : ℕ) (after : List ℕ) → (key.Written n, after) ≡ keyed p buffer → sheetOf (take n after) ≡ read.Count (eventCount p)
+unfolding keyOf
+sheet-is p buffer n after g =
+    let w = whole p buffer n after g (came p buffer) in
+    let l = w .long in
+    let b = long-most (keys-listed p buffer) (sym (ap (λ (x : Keyed × List ℕ). x .0) g)) in
+    let r = joined (keyPlaces p) in
+    rw (taken p buffer n after w, sheet-counts (keyOf p) (made-fits (eventCount p) r (omega arith) (key-long p)), made-count (eventCount p) r)
 
 -- ---- the demands
 
 pub demand-1 : Demand1
 demand-1 =
     record {
+      asked = λ s e. tt;
       given = λ s e. (stepOf s e, refl);
       listed = λ s e r g. rw g (answers-listed s e);
       same = λ s e r g h. rw g (ap (λ (x : Stepped). x .state) (refused-keeps s e (rw g at h) .1));
+      markAsked = λ p s. tt;
       markGiven = λ p s. (marked p s, refl);
       marksListed = λ p s r g. rw g (marks-listed p s);
+      keyAsked = λ p buffer. tt;
       keyGiven = λ p buffer. (keyed p buffer .0, keyed p buffer .1, refl);
       keysListed = λ p buffer r after g. rw (ap (λ (x : Keyed × List ℕ). x .0) g) (keys-listed p buffer);
       noByte = λ p buffer n after g. no-byte p buffer n after g (came p buffer);
@@ -189,9 +204,11 @@ demand-2 =
       advances = λ s f es given t c. by-the-rules AdvanceGives (λ u e r g. g .0) f c;
       may = λ s f es given t c e. rw (by-the-rules AdvanceGives (λ u d r g. g .0) f c .state) (sound-from (laid fresh) (sound-stays .first) es);
       every = every;
+      written = λ p buffer n e h r after g. ap (λ (x : Keyed × List ℕ). x .0) g ∙ keyed-is p buffer n e h;
+      sheet = sheet-is;
       places = λ p buffer n after g. has-places p buffer n after (whole p buffer n after g (came p buffer));
       behind = λ p buffer n after g. let w = whole p buffer n after g (came p buffer) in (w .long, dropped p buffer n after w);
-      counted = right-is;
+      marks = λ p s total answers e f r g. g ∙ marked-is p s total answers e f;
       byPlaces = places-count;
       full = λ p s r g. rw g (perfect-exact p s);
     }

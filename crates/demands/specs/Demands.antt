@@ -1,5 +1,5 @@
 -- Demands 1 and 2, of the code; demand 3 is in crate rules. In this file quotation marks stand around the demands' own words. Assumes nothing.
-use Prim.Native.Nat.{ℕ, _+_, _*_}
+use Prim.Native.Nat.{ℕ, _+_, _-_, _*_, _≤_}
 use mathlib.Core.Path.{_≡_}
 use mathlib.Core.Bool.{true}
 use mathlib.Core.Logic.{_↔_}
@@ -51,9 +51,12 @@ pub record Code (M : Type 1) : Type 2 where
   pub brinefeather-key : brinefeather-key-theorem.statement M
   pub brinefeather-mark : brinefeather-mark-theorem.statement M
 
--- What the promises say of a call, as any caller reads them: `fresh` gives s; `step`, and `advance` where it may be called, give r for the event e in the state s
+-- What the promises say of a call, as any caller reads them. `fresh` gives s. `step` and `advance` ask for this of the state s and the event e, and give r for them.
 abbrev pub FreshGives : State → Type 0
 FreshGives s = fresh-promise.Post tt tt s tt
+
+abbrev pub StepAsks : State → Event → Type 0
+StepAsks s e = step-promise.Pre tt (s, (e, tt))
 
 abbrev pub StepGives : State → Event → Stepped → Type 0
 StepGives s e r = step-promise.Post tt (s, (e, tt)) r (s, (e, tt))
@@ -64,29 +67,38 @@ AdvanceAsks s e = advance-promise.Pre tt (s, (e, tt))
 abbrev pub AdvanceGives : State → Event → Stepped → Type 0
 AdvanceGives s e r = advance-promise.Post tt (s, (e, tt)) r (s, (e, tt))
 
--- bytes lent from wherever they lie
+-- bytes, lent from one place: the promises read the bytes alone
 abbrev lent : List ℕ → RefT (List ℕ)
 lent x = record { ptr = (0, 0); name = 0; now = x }
 
--- `key` gives r for the paper p, with `after` in the buffer then
+-- `key` asks for this of the paper p and the buffer, and gives r, with `after` in the buffer then
+abbrev pub KeyAsks : List ℕ → List ℕ → Type 0
+KeyAsks p buffer = key-promise.Pre (p, (buffer, tt)) (lent p, (lent buffer, tt))
+
 abbrev pub KeyGives : List ℕ → List ℕ → Keyed → List ℕ → Type 0
 KeyGives p buffer r after = key-promise.Post (p, (buffer, tt)) (lent p, (lent buffer, tt)) r (lent p, (lent after, tt))
 
--- `mark` gives r for the paper p and the sheet s
+-- `mark` asks for this of the paper p and the sheet s, and gives r
+abbrev pub MarkAsks : List ℕ → List ℕ → Type 0
+MarkAsks p s = mark-promise.Pre (p, (s, tt)) (lent p, (lent s, tt))
+
 abbrev pub MarkGives : List ℕ → List ℕ → Marked → Type 0
 MarkGives p s r = mark-promise.Post (p, (s, tt)) (lent p, (lent s, tt)) r (lent p, (lent s, tt))
 
 -- ---- demand 1
 
 pub record Demand1 : Type 0 where
-  -- "every event and state, gets an answer from the rules' own list": there is one, and whatever is given is listed
+  -- "every event and state, gets an answer from the rules' own list": `step` may be asked, there is an answer, and whatever is given is listed
+  pub asked : (s : State) (e : Event) → StepAsks s e
   pub given : (s : State) (e : Event) → (r : Stepped) × StepGives s e r
   pub listed : (s : State) (e : Event) (r : Stepped) → StepGives s e r → Listed (r .answer)
   -- "A refused event hands back the same state"
   pub same : (s : State) (e : Event) (r : Stepped) → StepGives s e r → r .answer .kind ≡ 3 → r .state ≡ s
   -- "Every byte string offered as paper or sheet .. gets an answer from the rules' own list"
+  pub markAsked : (p s : List ℕ) → MarkAsks p s
   pub markGiven : (p s : List ℕ) → (r : Marked) × MarkGives p s r
   pub marksListed : (p s : List ℕ) (r : Marked) → MarkGives p s r → MarkListed r
+  pub keyAsked : (p buffer : List ℕ) → KeyAsks p buffer
   pub keyGiven : (p buffer : List ℕ) → (r : Keyed) × (after : List ℕ) × KeyGives p buffer r after
   pub keysListed : (p buffer : List ℕ) (r : Keyed) (after : List ℕ) → KeyGives p buffer r after → KeyListed (length buffer) r
   -- "a refused paper or sheet writes no byte of the key and yields no mark"
@@ -122,13 +134,17 @@ pub record Demand2 : Type 0 where
   -- the answers of the rules, at every event: the one to that event in the state that those before it left
   pub every : (s : State) (before : List Event) (e : Event) (rest : List Event)
       → answersFrom s (before ++ e ∷ rest) ≡ answersFrom s before ++ stepOf (stateFrom s before) e .answer ∷ answersFrom (stateFrom s (before ++ e ∷ [])) rest
-  -- the key that is written has those answers, place by place, and what lay behind it in the buffer lies there still
+  -- the key of a paper that is not refused is written, if there is room
+  pub written : (p buffer : List ℕ) (n : ℕ) → paperOf p ≡ read.Count n → 6 + 16 * n ≤ length buffer → (r : Keyed) (after : List ℕ) → KeyGives p buffer r after
+      → r ≡ keyed.Written (6 + 16 * n)
+  -- it is a sheet with one answer per event, and has those answers, place by place; what lay behind it in the buffer lies there still
+  pub sheet : (p buffer : List ℕ) (n : ℕ) (after : List ℕ) → KeyGives p buffer (keyed.Written n) after → sheetOf (take n after) ≡ read.Count (eventCount p)
   pub places : (p buffer : List ℕ) (n : ℕ) (after : List ℕ) → KeyGives p buffer (keyed.Written n) after
       → placesOf (take n after) ≡ map answerBytes (answersFrom (laid fresh) (eventsOf p))
   pub behind : (p buffer : List ℕ) (n : ℕ) (after : List ℕ) → KeyGives p buffer (keyed.Written n) after → (n ≡ 6 + 16 * eventCount p) × (drop n after ≡ drop n buffer)
-  -- "The mark counts the places where sheet and key are equal.": each place counts by itself, one where the 16 bytes are equal and none where they are not
-  pub counted : (p s : List ℕ) (total right missing surplus : ℕ) → MarkGives p s (marked.Mark total right missing surplus)
-      → right ≡ rightPlaces (map answerBytes (answersFrom (laid fresh) (eventsOf p))) (placesOf s)
+  -- "The mark counts the places where sheet and key are equal.": a paper and a sheet that are not refused have this mark; each place counts by itself, one where the 16 bytes are equal and none where they are not
+  pub marks : (p s : List ℕ) (total answers : ℕ) → paperOf p ≡ read.Count total → sheetOf s ≡ read.Count answers → (r : Marked) → MarkGives p s r
+      → r ≡ marked.Mark total (rightPlaces (map answerBytes (answersFrom (laid fresh) (eventsOf p))) (placesOf s)) (total - answers) (answers - total)
   pub byPlaces : PlacesCount
   -- "Full marks mean every event of a paper with at least one event was answered rightly, with no answer over."
   pub full : (p s : List ℕ) (r : Marked) → MarkGives p s r → (isPerfect r ≡ true) ↔ AllRight p s

@@ -79,8 +79,12 @@ right-parts (x ∷ xs) (y ∷ ys) more over h = rw (right-parts xs ys more over 
 right-wrong : (x y : List ℕ) → length x ≡ 16 → length y ≡ 16 → x ≢ y → rightPlaces (x ∷ []) (y ∷ []) ≡ 0
 right-wrong x y h k d = rw (off (agree 16 x y) (λ e. d (ext-getD 0 x y (h ∙ sym k) (λ i l. agree-at 16 x y e i (omega arith)))))
 
+right-missing : (more : List (List ℕ)) → rightPlaces more [] ≡ 0
+right-missing [] = refl
+right-missing (x ∷ more) = refl
+
 pub places-count : PlacesCount
-places-count = record { parts = right-parts; right = λ x. right-self (x ∷ []); wrong = right-wrong }
+places-count = record { parts = right-parts; right = λ x. right-self (x ∷ []); wrong = right-wrong; missing = right-missing; over = λ over. refl }
 
 -- where all are right, they are the same
 pub right-all : (xs : List Answer) (t : List ℕ) (from n : ℕ) → n ≤ length (map answerBytes xs) → rightPlaces (map answerBytes xs) (placesFrom t from n) ≡ length (map answerBytes xs)

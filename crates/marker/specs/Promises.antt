@@ -27,12 +27,14 @@ pub record AllRight (p s : List ℕ) : Type 0 where
 abbrev pub PerfectExact : Type 0
 PerfectExact = (p s : List ℕ) → (isPerfect (marked p s) ≡ true) ↔ AllRight p s
 
--- "right is the number of places where all 16 bytes agree": each place counts by itself, one where they agree and none where they do not
+-- "right is the number of places where all 16 bytes agree": each place counts by itself, one where they agree and none where they do not, or where one of the two has none
 pub record PlacesCount : Type 0 where
   pub parts : (key sheet more over : List (List ℕ)) → length key ≡ length sheet
       → rightPlaces (key ++ more) (sheet ++ over) ≡ rightPlaces key sheet + rightPlaces more over
   pub right : (x : List ℕ) → rightPlaces (x ∷ []) (x ∷ []) ≡ 1
   pub wrong : (x y : List ℕ) → length x ≡ 16 → length y ≡ 16 → x ≢ y → rightPlaces (x ∷ []) (y ∷ []) ≡ 0
+  pub missing : (more : List (List ℕ)) → rightPlaces more [] ≡ 0
+  pub over : (over : List (List ℕ)) → rightPlaces [] over ≡ 0
 
 -- "Sheet `0001 0000 0006`"
 abbrev pub blankSheet : List ℕ
