@@ -61,7 +61,7 @@ unfolding put noProcess newProcess
 put-none a m o =
     rw (put-nobody (withAlarm a noProcess) (m .procs) (below-first 0 1 (pids (m .procs)) (m .next) (lit< tt) (fit-ascend (pids (m .procs)) (m .next) (o .frame .fit)))) o
 
-pub step-fit : (t : Step) (m : Machine) → Fit m → Fit (after t m)
+step-fit : (t : Step) (m : Machine) → Fit m → Fit (after t m)
 unfolding after each
 step-fit (whole e) m f =
     record {
@@ -84,7 +84,7 @@ pub reached-sound : {s : State} → Reached s → sound s ≡ true
 reached-sound Reached.start = sound-stays .first
 reached-sound (Reached.next {s} r e) = sound-stays .next s e (reached-sound r)
 
-pub reached-free : {s : State} → Reached s → RingFree (view s .rows)
+reached-free : {s : State} → Reached s → RingFree (view s .rows)
 reached-free Reached.start = ring-free-stays .first
 reached-free (Reached.next {s} r e) = ring-free-stays .next s e (reached-free r)
 
