@@ -26,7 +26,9 @@ use Rattle.papers.specs.declared.layout.Read.the-variants as read
 use Rattle.papers.proofs.Files.{paper-count, sheet-counts}
 use Rattle.papers.proofs.Sheets.{made-fits, made-count}
 use Rattle.marker.specs.Promises.{KeyListed, writes as keyWrites, refused as keyRefused}
-use Rattle.marker.specs.Key.{joined, answersFrom, keyPlaces, keyOf, keyedFor, keyed}
+use Rattle.rules.specs.Play.{answersFrom, stateFrom}
+use Rattle.rules.proofs.Plays.{answers-more, state-more}
+use Rattle.marker.specs.Key.{joined, keyPlaces, keyOf, keyedFor, keyed}
 use Rattle.marker.specs.Mark.{rightPlaces, marked}
 use Rattle.marker.specs.declared.keys.Keyed.{Keyed}
 use Rattle.marker.specs.declared.keys.Keyed.the-variants as key
@@ -36,12 +38,13 @@ use Rattle.marker.proofs.Promises.{perfect-exact, marks-listed, keys-listed, ke
 use Rattle.model.proofs.fresh.Met as fresh-code
 use Rattle.model.proofs.step.Met as step-code
 use Rattle.model.proofs.advance.Met as advance-code
+use Rattle.model.proofs.play.Met as play-code
 use Rattle.marker.proofs.key.Met as key-code
 use Rattle.marker.proofs.mark.Met as mark-code
 use Rattle.marker.proofs.perfect.Met as perfect-code
 use Rattle.marker.proofs.brinefeather_key.Met as brinefeather-key-code
 use Rattle.marker.proofs.brinefeather_mark.Met as brinefeather-mark-code
-use Rattle.demands.specs.Demands.{Code, StepGives, AdvanceGives, stateFrom, Calls, none, more, ByTheRules, Demand1, Demand2}
+use Rattle.demands.specs.Demands.{Code, StepGives, AdvanceGives, Calls, none, more, ByTheRules, Demand1, Demand2}
 
 pub code : {M : Type 1} → Code M
 code =
@@ -49,6 +52,7 @@ code =
       fresh = fresh-code.met;
       step = step-code.met;
       advance = advance-code.met;
+      play = play-code.met;
       key = key-code.met;
       mark = mark-code.met;
       perfect = perfect-code.met;
@@ -57,15 +61,6 @@ code =
     }
 
 -- ---- any events
-
--- one event more
-answers-more : (s : State) (es : List Event) (e : Event) → answersFrom s (es ++ e ∷ []) ≡ answersFrom s es ++ stepOf (stateFrom s es) e .answer ∷ []
-answers-more s [] e = refl
-answers-more s (d ∷ es) e = rw (answers-more (stepOf s d .state) es e)
-
-state-more : (s : State) (es : List Event) (e : Event) → stateFrom s (es ++ e ∷ []) ≡ stepOf (stateFrom s es) e .state
-state-more s [] e = refl
-state-more s (d ∷ es) e = state-more (stepOf s d .state) es e
 
 every : (s : State) (before : List Event) (e : Event) (rest : List Event)
     → answersFrom s (before ++ e ∷ rest) ≡ answersFrom s before ++ stepOf (stateFrom s before) e .answer ∷ answersFrom (stateFrom s (before ++ e ∷ [])) rest

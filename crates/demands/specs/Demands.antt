@@ -17,7 +17,7 @@ use Rattle.papers.specs.Layout.{eventCount, paperOf, sheetOf}
 use Rattle.papers.specs.Events.{eventsOf}
 use Rattle.papers.specs.Answers.{answerBytes, placesOf}
 use Rattle.papers.specs.declared.layout.Read.the-variants as read
-use Rattle.marker.specs.Key.{answersFrom}
+use Rattle.rules.specs.Play.{answersFrom, stateFrom}
 use Rattle.marker.specs.Mark.{rightPlaces, isPerfect}
 use Rattle.marker.specs.Promises.{MarkListed, KeyListed, PlacesCount, AllRight}
 use Rattle.marker.specs.declared.keys.Keyed.{Keyed}
@@ -30,6 +30,7 @@ use Rattle.model.proofs.step.Statement as step-theorem
 use Rattle.model.proofs.step.Reads as step-promise
 use Rattle.model.proofs.advance.Statement as advance-theorem
 use Rattle.model.proofs.advance.Reads as advance-promise
+use Rattle.model.proofs.play.Statement as play-theorem
 use Rattle.marker.proofs.key.Statement as key-theorem
 use Rattle.marker.proofs.key.Reads as key-promise
 use Rattle.marker.proofs.mark.Statement as mark-theorem
@@ -45,6 +46,7 @@ pub record Code (M : Type 1) : Type 2 where
   pub fresh : fresh-theorem.statement M
   pub step : step-theorem.statement M
   pub advance : advance-theorem.statement M
+  pub play : play-theorem.statement M
   pub key : key-theorem.statement M
   pub mark : mark-theorem.statement M
   pub perfect : perfect-theorem.statement M
@@ -108,11 +110,6 @@ pub record Demand1 : Type 0 where
   pub sheetNoMark : (p s : List ℕ) (k n : ℕ) → paperOf p ≡ read.Count k → sheetOf s ≡ read.Refused n → (r : Marked) → MarkGives p s r → r ≡ marked.Refused n
 
 -- ---- demand 2
-
--- the state that the events leave, by the rules
-abbrev pub stateFrom : State → List Event → State
-stateFrom s [] = s
-stateFrom s (e ∷ es) = stateFrom (stepOf s e .state) es
 
 -- calls of a routine one after the other, each with the state that the last one gave: the events, the answers given, the state then
 pub data Calls (Gives : State → Event → Stepped → Type 0) (s : State) : List Event → List Answer → State → Type 0 where

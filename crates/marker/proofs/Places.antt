@@ -21,7 +21,8 @@ use Rattle.papers.specs.Events.{eventAt, eventsFrom, eventsOf}
 use Rattle.papers.specs.Answers.{answerBytes, sheetHeader, placesFrom, placesOf}
 use Rattle.papers.proofs.Runs.{run-part}
 use Rattle.papers.proofs.Sheets.{header-long, answer-long, made-count}
-use Rattle.marker.specs.Key.{answersFrom, keyPlaces, joined, keyOf}
+use Rattle.rules.specs.Play.{answersFrom}
+use Rattle.marker.specs.Key.{keyPlaces, joined, keyOf}
 use Rattle.marker.specs.Mark.{rightPlaces}
 use Rattle.marker.specs.Promises.{PlacesCount}
 

@@ -17,7 +17,8 @@ use Rattle.papers.specs.Answers.{sheetHeader, placesOf}
 use Rattle.papers.specs.declared.layout.Read.{Read}
 use Rattle.papers.proofs.Files.{PaperRead, SheetRead, none, some, paper-has, paper-read, paper-counts, sheet-read, sheet-counts}
 use Rattle.papers.proofs.Sheets.{header-long, made-count, made-fits}
-use Rattle.marker.specs.Key.{answersFrom, keyPlaces, joined, keyOf, keyedFor, keyed}
+use Rattle.rules.specs.Play.{answersFrom}
+use Rattle.marker.specs.Key.{keyPlaces, joined, keyOf, keyedFor, keyed}
 use Rattle.marker.specs.Mark.{rightPlaces, markedFor, marked, isPerfect}
 use Rattle.marker.specs.Desk.{markNumber, keyNumber}
 use Rattle.marker.specs.Promises.{AllRight, PerfectExact, BlankNothing, KeyLong, KeyPerfect, MarkListed, MarksListed, KeyListed, KeysListed, NumbersDiffer, counts, writes, refused}

@@ -1,34 +1,104 @@
--- One turn of the loops that play a paper: what is left is the place at hand, and what is left after it. Assumes nothing.
-use mathlib.Core.Path.{_≡_, _∙_}
-use mathlib.Core.List.{List, _∷_, _++_, map, append-assoc, append-nil}
-use Prim.Native.Nat.{ℕ, suc, _+_, _-_, _*_, _≤_, _<_}
+-- One turn of the loops that play a paper: what is left is the part at hand, and what is left after it. Assumes nothing.
+use mathlib.Core.Path.{_≡_, refl, sym, ap, _∙_}
+use mathlib.Core.Bool.{cond}
+use mathlib.Core.List.{List, [], _∷_, _++_, map, map-append, append-assoc, append-nil}
+use Prim.Native.Nat.{ℕ, zero, suc, _+_, _-_, _*_, _≤_, _<_}
+use native.Mathlib.Nat.{zero-add, add-assoc}
 use native.Mathlib.Omega.{arith}
 use lib.ListN.{length, take, drop, length-drop, length-append}
 use lib.Seq.{take-all, take-at, drop-at, length-take-le, take-length, drop-length, drop-drop}
 use Rattle.rules.specs.Step.{stepOf}
 use Rattle.rules.specs.declared.state.State.{State}
+use Rattle.rules.specs.declared.state.Event.{Event}
+use Rattle.rules.specs.declared.state.Answer.{Answer}
+use Rattle.rules.proofs.Plays.{answers-count}
+use Rattle.model.specs.Course.{noAnswer}
+use Rattle.locks.specs.Lists.{padded, agree}
 use Rattle.papers.specs.Bytes.{run}
 use Rattle.papers.specs.Events.{eventAt, eventsFrom}
 use Rattle.papers.specs.Answers.{answerBytes, placesFrom}
-use Rattle.marker.specs.Key.{answersFrom}
+use Rattle.marker.specs.Key.{joined}
+use Rattle.marker.specs.Mark.{rightPlaces}
+use Rattle.rules.specs.Play.{answersFrom, stateFrom}
 
 -- the places of the n - i events from the one at hand on
 abbrev pub left : State → List ℕ → ℕ → ℕ → List (List ℕ)
 left t p n i = map answerBytes (answersFrom t (eventsFrom p (12 + 20 * i) (n - i)))
 
-pub key-at : (t : State) (p : List ℕ) (n i : ℕ) → i < n
-    → (let r = stepOf t (eventAt p (12 + 20 * i)) in left t p n i ≡ answerBytes (r .answer) ∷ left (r .state) p n (i + 1))
-key-at t p n i h =
-    let e : n - i ≡ suc (n - (i + 1)) = omega arith in
-    let f : 12 + 20 * (i + 1) ≡ 12 + 20 * i + 20 = omega arith in
-    rw (e, f)
+-- ---- a part and what is left after it
 
-pub sheet-at : (s : List ℕ) (n i : ℕ) → i < n
-    → placesFrom s (6 + 16 * i) (n - i) ≡ run s (6 + 16 * i) 16 ∷ placesFrom s (6 + 16 * (i + 1)) (n - (i + 1))
-sheet-at s n i h =
-    let e : n - i ≡ suc (n - (i + 1)) = omega arith in
-    let f : 6 + 16 * (i + 1) ≡ 6 + 16 * i + 16 = omega arith in
-    rw (e, f)
+events-more : (p : List ℕ) (at m k : ℕ) → eventsFrom p at (m + k) ≡ eventsFrom p at m ++ eventsFrom p (at + 20 * m) k
+events-more p at zero k = let e : 0 + k ≡ k = omega arith in let f : at + 20 * 0 ≡ at = omega arith in rw (e, f)
+events-more p at (suc m) k =
+    let e : suc m + k ≡ suc (m + k) = omega arith in
+    let f : at + 20 * suc m ≡ at + 20 + 20 * m = omega arith in
+    rw (e, f, events-more p (at + 20) m k)
+
+-- one event more
+pub events-end : (p : List ℕ) (at m : ℕ) → eventsFrom p at (m + 1) ≡ eventsFrom p at m ++ eventAt p (at + 20 * m) ∷ []
+events-end p at m = events-more p at m 1
+
+places-more : (s : List ℕ) (at m k : ℕ) → placesFrom s at (m + k) ≡ placesFrom s at m ++ placesFrom s (at + 16 * m) k
+places-more s at zero k = let e : 0 + k ≡ k = omega arith in let f : at + 16 * 0 ≡ at = omega arith in rw (e, f)
+places-more s at (suc m) k =
+    let e : suc m + k ≡ suc (m + k) = omega arith in
+    let f : at + 16 * suc m ≡ at + 16 + 16 * m = omega arith in
+    rw (e, f, places-more s (at + 16) m k)
+
+pub places-count : (s : List ℕ) (at m : ℕ) → length (placesFrom s at m) ≡ m
+places-count s at zero = refl
+places-count s at (suc m) = ap suc (places-count s (at + 16) m)
+
+pub places-end : (s : List ℕ) (at m : ℕ) → placesFrom s at (m + 1) ≡ placesFrom s at m ++ run s (at + 16 * m) 16 ∷ []
+places-end s at m = places-more s at m 1
+
+answers-both : (t : State) (es fs : List Event) → answersFrom t (es ++ fs) ≡ answersFrom t es ++ answersFrom (stateFrom t es) fs
+answers-both t [] fs = refl
+answers-both t (e ∷ es) fs = rw (answers-both (stepOf t e .state) es fs)
+
+pub joined-both : (xs ys : List (List ℕ)) → joined (xs ++ ys) ≡ joined xs ++ joined ys
+joined-both [] ys = refl
+joined-both (x ∷ xs) ys = rw (joined-both xs ys, append-assoc)
+
+pub right-both : (ks ls xs ys : List (List ℕ)) → length ks ≡ length xs → rightPlaces (ks ++ ls) (xs ++ ys) ≡ rightPlaces ks xs + rightPlaces ls ys
+right-both [] ls [] ys h = sym (zero-add (rightPlaces ls ys))
+right-both [] ls (x ∷ xs) ys h = absurd (omega (arith, h))
+right-both (k ∷ ks) ls [] ys h = absurd (omega (arith, h))
+right-both (k ∷ ks) ls (x ∷ xs) ys h =
+    let e = right-both ks ls xs ys (omega (arith, h)) in
+    rw e (sym (add-assoc (cond (agree 16 k x) 1 0) (rightPlaces ks xs) (rightPlaces ls ys)))
+
+-- the answers of a part, in the array that holds them
+part-answers : (t : State) (es : List Event) (m : ℕ) (xs : List Answer) → length es ≡ m → xs ≡ padded 16 noAnswer (answersFrom t es) → take m xs ≡ answersFrom t es
+unfolding padded
+part-answers t es m xs l h = rw h (take-at (answersFrom t es) _ m (answers-count t es ∙ l))
+
+events-count : (p : List ℕ) (at m : ℕ) → length (eventsFrom p at m) ≡ m
+events-count p at zero = refl
+events-count p at (suc m) = ap suc (events-count p (at + 20) m)
+
+module _ (t : State) (p : List ℕ) (n i m : ℕ) (h : i + m ≤ n) where
+  abbrev part : List Event
+  part = eventsFrom p (12 + 20 * i) m
+
+  pub left-more : left t p n i ≡ map answerBytes (answersFrom t part) ++ left (stateFrom t part) p n (i + m)
+  left-more =
+      let e : n - i ≡ m + (n - (i + m)) = omega arith in
+      let f : 12 + 20 * (i + m) ≡ 12 + 20 * i + 20 * m = omega arith in
+      rw (e, f, events-more p (12 + 20 * i) m (n - (i + m)), answers-both t part (eventsFrom p (12 + 20 * i + 20 * m) (n - (i + m))), map-append)
+
+-- a part as it is played
+pub played : (t : State) (p : List ℕ) (i m : ℕ) (es : List Event) (xs : List Answer) (u : State) → take m es ≡ eventsFrom p (12 + 20 * i) m
+    → xs ≡ padded 16 noAnswer (answersFrom t (take m es)) → u ≡ stateFrom t (take m es)
+    → (take m xs ≡ answersFrom t (eventsFrom p (12 + 20 * i) m)) × (u ≡ stateFrom t (eventsFrom p (12 + 20 * i) m))
+played t p i m es xs u e f g =
+    (part-answers t (eventsFrom p (12 + 20 * i) m) m xs (events-count p (12 + 20 * i) m) (rw e at f), rw e at g)
+
+pub sheet-more : (s : List ℕ) (n i m : ℕ) → i + m ≤ n → placesFrom s (6 + 16 * i) (n - i) ≡ placesFrom s (6 + 16 * i) m ++ placesFrom s (6 + 16 * (i + m)) (n - (i + m))
+sheet-more s n i m h =
+    let e : n - i ≡ m + (n - (i + m)) = omega arith in
+    let f : 6 + 16 * (i + m) ≡ 6 + 16 * i + 16 * m = omega arith in
+    rw (e, f) (places-more s (6 + 16 * i) m (n - (i + m)))
 
 -- what `bytes::copy` leaves, of a run of n bytes
 pub copied : (x y o : List ℕ) (n : ℕ) → length x ≡ n → y ≡ take (length x) x ++ drop (length x) o → y ≡ x ++ drop n o

@@ -5,10 +5,7 @@ use mathlib.Core.List.{List, [], _∷_, _++_, map}
 use lib.ListN.{length, drop}
 use lib.Dec.{ltb}
 use Rattle.rules.specs.State.{laid, fresh}
-use Rattle.rules.specs.Step.{stepOf}
-use Rattle.rules.specs.declared.state.State.{State}
-use Rattle.rules.specs.declared.state.Event.{Event}
-use Rattle.rules.specs.declared.state.Answer.{Answer}
+use Rattle.rules.specs.Play.{answersFrom}
 use Rattle.papers.specs.Layout.{numberOf, noroom, eventCount, paperOf}
 use Rattle.papers.specs.Events.{eventsOf}
 use Rattle.papers.specs.Answers.{answerBytes, sheetHeader}
@@ -16,11 +13,6 @@ use Rattle.papers.specs.declared.layout.Read.{Read}
 use Rattle.papers.specs.declared.layout.Read.the-variants as read
 use Rattle.marker.specs.declared.keys.Keyed.{Keyed}
 use Rattle.marker.specs.declared.keys.Keyed.the-variants.{Written, Refused}
-
--- "the model's to that event in the state the events before it left"
-abbrev pub answersFrom : State → List Event → List Answer
-answersFrom s [] = []
-answersFrom s (e ∷ es) = stepOf s e .answer ∷ answersFrom (stepOf s e .state) es
 
 -- "to the first in the fresh state": the answers' bytes, place by place
 unfoldable pub keyPlaces : List ℕ → List (List ℕ)

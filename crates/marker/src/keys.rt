@@ -1,8 +1,8 @@
 // The key of a paper, written into a lent buffer.
-use model::advance;
+use crate::parts::*;
 use model::fresh;
+use model::play;
 use papers::answer_bytes;
-use papers::event;
 use papers::header;
 use papers::layout::Read;
 use papers::paper;
@@ -12,13 +12,14 @@ ghost use mathlib.Core.Path.{_≡_};
 ghost use mathlib.Core.Bool.{true};
 ghost use mathlib.Core.List.{_++_, map};
 ghost use Prim.Native.Nat.{_+_, _*_, _≤_};
-ghost use lib.ListN.{length, drop};
+ghost use lib.ListN.{length, take, drop};
 ghost use Rattle.rules.specs.State.{laid};
 ghost use Rattle.rules.specs.State.{fresh as State·fresh};
 ghost use Rattle.rules.specs.Sound.{sound};
 ghost use Rattle.papers.specs.Events.{eventsFrom};
 ghost use Rattle.papers.specs.Answers.{answerBytes, sheetHeader};
-ghost use Rattle.marker.specs.Key.{answersFrom, joined, keyed};
+ghost use Rattle.rules.specs.Play.{answersFrom};
+ghost use Rattle.marker.specs.Key.{joined, keyed};
 
 const NOROOM: u8 = 18;
 
@@ -37,6 +38,22 @@ fn put_answer(out: &mut [u8], a: Answer)
     bytes::copy(&record, out);
 }
 
+// Puts the first m answers at the start of what is left of the key.
+fn put_few(answers: [Answer; 16], m: u16, out: &mut [u8])
+    requires { ⌜ (m ≤ 16) × (16 * m ≤ length (now out)) ⌝ }
+    ensures { λ _. ⌜ now (out .exit) ≡ joined (map answerBytes (take m answers)) ++ drop (16 * m) (now (out .entry)) ⌝ }
+{
+    let n = m as usize;
+    let mut at: usize = 0;
+    let mut k: usize = 0;
+    while k < n {
+        let a = answers[k];
+        put_answer(&mut out[at..], a);
+        at += 16;
+        k += 1;
+    }
+}
+
 // Puts the answers to the paper's first n events, the first given in the state s, at the start of what is left of the key.
 fn put_answers(mut s: State, p: &[u8], n: u16, out: &mut [u8])
     requires { ⌜ (sound s ≡ true) × (16 * n ≤ length (now out)) ⌝ }
@@ -45,11 +62,15 @@ fn put_answers(mut s: State, p: &[u8], n: u16, out: &mut [u8])
     let mut i: u16 = 0;
     let mut at: usize = 0;
     while i < n {
-        let r = advance(s, event(p, i));
-        put_answer(&mut out[at..], r.answer);
-        s = r.state;
-        at += 16;
-        i += 1;
+        let m = few(n - i);
+        let es = events(p, i, m);
+        let r = play(s, es, m as usize);
+        let answers = r.answers;
+        put_few(answers, m, &mut out[at..]);
+        let t = r.state;
+        s = t;
+        at += 16 * (m as usize);
+        i += m;
     }
 }
 

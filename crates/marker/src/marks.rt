@@ -1,22 +1,24 @@
 // A sheet marked by its paper.
+use crate::parts::*;
 use locks::rows::same_bytes;
-use model::advance;
 use model::fresh;
+use model::play;
 use papers::answer_bytes;
-use papers::event;
 use papers::layout::Read;
 use papers::paper;
 use papers::place;
 use papers::sheet;
+use rules::state::Answer;
 use rules::state::State;
 ghost use mathlib.Core.Path.{_≡_};
 ghost use mathlib.Core.Bool.{true};
 ghost use mathlib.Core.List.{map};
-ghost use Prim.Native.Nat.{_-_, min};
+ghost use Prim.Native.Nat.{_+_, _-_, _*_, _≤_, min};
+ghost use lib.ListN.{take};
 ghost use Rattle.rules.specs.Sound.{sound};
 ghost use Rattle.papers.specs.Events.{eventsFrom};
 ghost use Rattle.papers.specs.Answers.{answerBytes, placesFrom};
-ghost use Rattle.marker.specs.Key.{answersFrom};
+ghost use Rattle.rules.specs.Play.{answersFrom};
 ghost use Rattle.marker.specs.Mark.{rightPlaces, marked, isPerfect};
 
 // What a sheet is worth, or the number of the refusal.
@@ -43,6 +45,23 @@ fn above(a: u16, b: u16) -> u16
     if a < b { 0 } else { a - b }
 }
 
+// In how many of the sheet's m places from place i on the answer stands.
+fn right_few(answers: [Answer; 16], sheet: &[u8], i: u16, m: u16) -> u16
+    requires { ⌜ (m ≤ 16) × (i + m ≤ 65535) ⌝ }
+    ensures { λ r. ⌜ r ≡ rightPlaces (map answerBytes (take m answers)) (placesFrom (now (sheet .entry)) (6 + 16 * i) m) ⌝ }
+{
+    let mut right: u16 = 0;
+    let mut k: u16 = 0;
+    while k < m {
+        let a = answers[k as usize];
+        if same_bytes(answer_bytes(a), place(sheet, i + k), 16) {
+            right += 1;
+        }
+        k += 1;
+    }
+    right
+}
+
 // In how many of the first n places the sheet has the answer to the paper's event, the first given in the state s.
 fn right_places(mut s: State, p: &[u8], sheet: &[u8], n: u16) -> u16
     requires { ⌜ sound s ≡ true ⌝ }
@@ -51,12 +70,14 @@ fn right_places(mut s: State, p: &[u8], sheet: &[u8], n: u16) -> u16
     let mut right: u16 = 0;
     let mut i: u16 = 0;
     while i < n {
-        let r = advance(s, event(p, i));
-        if same_bytes(answer_bytes(r.answer), place(sheet, i), 16) {
-            right += 1;
-        }
-        s = r.state;
-        i += 1;
+        let m = few(n - i);
+        let es = events(p, i, m);
+        let r = play(s, es, m as usize);
+        let answers = r.answers;
+        right += right_few(answers, sheet, i, m);
+        let t = r.state;
+        s = t;
+        i += m;
     }
     right
 }

@@ -150,18 +150,18 @@ module _ (s : State) (p : Process) (e : Event) where
   unfolding ofCaller settled
   trap-pending h k = rw (eq-eqb (e .kind) 1 h, ne-eqb (p .signals .pending) 0 k) refl
 
-  pub calls : e .kind ≡ 1 → p .signals .pending ≡ 0 → settled s (called p e (view s)) ≡ settled s (ofCaller p e (view s))
+  pub asks : e .kind ≡ 1 → p .signals .pending ≡ 0 → settled s (called p e (view s)) ≡ settled s (ofCaller p e (view s))
   unfolding ofCaller settled
-  calls h k = rw (eq-eqb (e .kind) 1 h, eq-eqb (p .signals .pending) 0 k) refl
+  asks h k = rw (eq-eqb (e .kind) 1 h, eq-eqb (p .signals .pending) 0 k) refl
 
 -- the course of a live process that is awake
-pub calling : (p : Process) (e : Event) {x : Course} → 1 ≤ e .kind → ltb 4 (e .kind) ≡ false → p .pid ≡ e .caller → p .rest .sleep ≡ 0
-    → ((s : State) → (e .kind ≡ 2 → ⊥) → follows s p e x ≡ settled s (ofCaller p e (view s))) → OfEvent p e x
-calling p e a b c d h =
+pub calling : (p : Process) (e : Event) {x : Course} → 1 ≤ e .kind → ltb 4 (e .kind) ≡ false → (e .kind ≡ 2 → ⊥) → p .pid ≡ e .caller → p .rest .sleep ≡ 0
+    → ((s : State) → follows s p e x ≡ settled s (ofCaller p e (view s))) → OfEvent p e x
+calling p e a b n c d h =
     let awake : sleeps p ≡ false = rw (eq-eqb (p .rest .sleep) 0 d) in
     record {
       caller = λ _. (c, awake);
-      is = λ s n u v. let k = v c in h s n ∙ caller-acts s e (kind-range (e .kind) a b) (ne-eqb (e .kind) 2 n) (k .0) (k .1) awake;
+      is = λ s u v. let k = v c in h s ∙ caller-acts s e (kind-range (e .kind) a b) (ne-eqb (e .kind) 2 n) (k .0) (k .1) awake;
     }
 
 -- neither a tick, nor a take, nor a report

@@ -19,14 +19,17 @@ use Rattle.rules.specs.declared.calls.OwnCall.the-variants.{GetUser, SetUser, G
 use Rattle.rules.proofs.Walk.{Leaves}
 use Rattle.rules.proofs.Frame.{Ok}
 use Rattle.processes.specs.Told.{told}
+use Rattle.model.specs.declared.event.OwnTurn.{OwnTurn}
+use Rattle.model.specs.declared.event.OwnTurn.the-variants as turn
 use Rattle.model.specs.Laid.{Lays, Caller, kept}
+use Rattle.model.specs.Course.{ownTurn}
 use Rattle.model.proofs.Places.{first-found}
 use Rattle.model.proofs.Laying.{lays-live, lays-fits, lays-long, lays-put}
 use Rattle.model.proofs.Masks.{put-masks, settled-quiet}
 
 -- ---- its PID stays
 
-pub own-pids : (c : OwnCall) (p : Process) (e : Event) → Leaves (λ q. q .pid ≡ p .pid) (ownCall c p e)
+own-pids : (c : OwnCall) (p : Process) (e : Event) → Leaves (λ q. q .pid ≡ p .pid) (ownCall c p e)
 unfolding ownCall getId setId setPrior setSignal doSleep
 own-pids GetUser p e = λ _. refl
 own-pids SetUser p e = λ _ _. refl
@@ -40,13 +43,19 @@ own-pids Sleep p e = (λ _. refl, λ _. refl)
 own-pids Alarm p e = refl
 own-pids Pause p e = refl
 
-pub taken-pids : (p : Process) → Leaves (λ q. q .pid ≡ p .pid) (taken p)
+taken-pids : (p : Process) → Leaves (λ q. q .pid ≡ p .pid) (taken p)
 unfolding taken takes
 taken-pids p = (λ _. refl, λ _. refl)
 
-pub reported-pids : (p : Process) → Leaves (λ q. q .pid ≡ p .pid) (reported p)
+reported-pids : (p : Process) → Leaves (λ q. q .pid ≡ p .pid) (reported p)
 unfolding reported
 reported-pids p = refl
+
+pub turn-pids : (c : OwnTurn) (p : Process) (e : Event) → Leaves (λ q. q .pid ≡ p .pid) (ownTurn c p e)
+unfolding ownTurn
+turn-pids (turn.Call c) p e = own-pids c p e
+turn-pids turn.Take p e = taken-pids p
+turn-pids turn.Report p e = reported-pids p
 
 -- ---- in its place
 

@@ -8,5 +8,6 @@ pub mod Sweep
 pub mod Comparing
 pub mod Locks
 pub mod Events
+pub mod Plays
 pub mod Ticks
 pub mod Endings

@@ -15,6 +15,7 @@ pub mod Queue
 pub mod Leaving
 pub mod Fates
 pub mod Heard
+pub mod Plays
 pub mod Steps
 pub mod Asked
 pub mod Shown

@@ -5,15 +5,17 @@ use Rattle.marker.proofs.keys.put_answers.Tie as tie
 use Prim.Native.Nat.{_+_, _-_, _*_, _≤_}
 use mathlib.Core.Path.{_≡_, refl, sym, _∙_, ap}
 use mathlib.Core.Bool.{true}
-use mathlib.Core.List.{_++_, append-nil, append-assoc}
+use mathlib.Core.List.{_++_, map, append-nil, append-assoc}
 use native.Mathlib.Omega.{arith}
 use lib.ListN.{length, take, drop, take-append-drop}
 use lib.Seq.{drop-drop}
 use Rattle.rules.specs.Sound.{sound}
+use Rattle.rules.specs.Play.{answersFrom, stateFrom}
+use Rattle.papers.specs.Events.{eventsFrom}
 use Rattle.papers.specs.Answers.{answerBytes}
 use Rattle.marker.specs.Key.{joined}
-use Rattle.papers.proofs.Sheets.{answer-long}
-use Rattle.marker.proofs.Turns.{left, key-at, tail-take, tail-drop}
+use Rattle.marker.proofs.Places.{joined-long, answers-count}
+use Rattle.marker.proofs.Turns.{left, left-more, played, joined-both, tail-take, tail-drop}
 
 -- what is written, and what is left of the answers and of the buffer
 abbrev Inv-loop : tie.InvT-loop
@@ -26,23 +28,38 @@ abbrev μ-loop : tie.MeasureT-loop
 loop-holds : tie.Need-loop-holds Inv-loop μ-loop
 loop-holds c = (search needs, search needs, c .before .before .pre .0, refl, refl, refl)
 
-event-requires : tie.Need-event-requires Inv-loop μ-loop
-event-requires c κs = search needs
+sub-few : tie.Need-sub-few Inv-loop μ-loop
+sub-few c = search needs
 
-advance-requires : tie.Need-advance-requires Inv-loop μ-loop
-advance-requires c κs = search needs
+few-requires : tie.Need-few-requires Inv-loop μ-loop
+few-requires c κs = search needs
 
-sub-put-answer : tie.Need-sub-put-answer Inv-loop μ-loop
-sub-put-answer c = search needs
+events-requires : tie.Need-events-requires Inv-loop μ-loop
+events-requires c κs = search needs
 
-part-put-answer-start : tie.Need-part-put-answer-start Inv-loop μ-loop
-part-put-answer-start c = search needs
+cast-play : tie.Need-cast-play Inv-loop μ-loop
+cast-play c = search needs
 
-part-put-answer-end : tie.Need-part-put-answer-end Inv-loop μ-loop
-part-put-answer-end c = search needs
+play-requires : tie.Need-play-requires Inv-loop μ-loop
+play-requires c κs = search needs
 
-put-answer-requires : tie.Need-put-answer-requires Inv-loop μ-loop
-put-answer-requires c κs = search needs
+sub-put-few : tie.Need-sub-put-few Inv-loop μ-loop
+sub-put-few c = search needs
+
+part-put-few-start : tie.Need-part-put-few-start Inv-loop μ-loop
+part-put-few-start c = search needs
+
+part-put-few-end : tie.Need-part-put-few-end Inv-loop μ-loop
+part-put-few-end c = search needs
+
+put-few-requires : tie.Need-put-few-requires Inv-loop μ-loop
+put-few-requires c κs = search needs
+
+cast-at : tie.Need-cast-at Inv-loop μ-loop
+cast-at c = search needs
+
+mul-at : tie.Need-mul-at Inv-loop μ-loop
+mul-at c = search needs
 
 add-at : tie.Need-add-at Inv-loop μ-loop
 add-at c = search needs
@@ -55,22 +72,26 @@ loop-less c = search needs
 
 loop-again : tie.Need-loop-again Inv-loop μ-loop
 loop-again c =
-    let a = c .before .before .before .before .before .before .before .before .before .before .before .args in
-    let l = c .before .before .before .before .before .before .before .before .loop in
-    let r = c .before .before .before .before .before .advance in
-    let put = c .before .before .before .put-answer in
-    let e = answerBytes (r .result .answer) in
-    let t = c .before .before .before .before .before .before .before .loop-test .taken in
-    let q = c .before .before .before .before .before .before .before .before .before .before .before .pre .1 in
-    let h : l .at + 16 ≤ length (l .out) = omega arith in
-    let k : length e ≡ 16 = answer-long (r .result .answer) in (
+    let o = c .before .before .before .before .before .before .before .before .before .before .before .before .before in
+    let l = c .before .before .before .before .before .before .before .before .before .before .loop in
+    let r = c .before .before .before .before .before .before .play in
+    let put = c .before .before .before .put-few in
+    let m = c .before .before .before .before .before .before .before .before .few .result in
+    let q = c .before .before .before .before .before .before .before .before .few .ensures in
+    let t = c .before .before .before .before .before .before .before .before .before .loop-test .taken in
+    let w = played (l .s) (o .args .p .now) (l .i) m (c .before .before .before .before .before .before .before .events .result) (r .result .answers) (r .result .state) (c .before .before .before .before .before .before .before .events .ensures) (r .ensures .0) (r .ensures .1) in
+    let e = joined (map answerBytes (take m (r .result .answers))) in
+    let k : length e ≡ 16 * m = rw (w .0) (joined-long (answersFrom (l .s) (eventsFrom (o .args .p .now) (12 + 20 * l .i) m)) ∙ ap (λ x. 16 * x) (answers-count (l .s) (o .args .p .now) (12 + 20 * l .i) m)) in
+    let h : l .at + 16 * m ≤ length (l .out) = omega (arith, l .inv .1, l .inv .3, o .pre .1, q, t) in
+    let g : l .i + m ≤ o .args .n = omega (arith, q, t) in
+    let f : joined (left (l .s) (o .args .p .now) (o .args .n) (l .i)) ≡ e ++ joined (left (r .result .state) (o .args .p .now) (o .args .n) (l .i + m)) =
+    rw (left-more (l .s) (o .args .p .now) (o .args .n) (l .i) m g, w .0, w .1) (joined-both (map answerBytes (answersFrom (l .s) (eventsFrom (o .args .p .now) (12 + 20 * l .i) m))) (left (stateFrom (l .s) (eventsFrom (o .args .p .now) (12 + 20 * l .i) m)) (o .args .p .now) (o .args .n) (l .i + m))) in (
       search needs,
       search needs,
-      r .ensures .1,
+      r .ensures .2,
       c .before .before .out .given .1 ∙ l .inv .3,
-      tail-drop (l .out) e (put .last .0) (l .at) 16 h k (put .ensures) ∙ sym (drop-drop 16 (l .at) (l .out)) ∙ ap (drop 16) (l .inv .4) ∙ drop-drop 16 (l .at) (a .out .now),
-      rw (tail-take (l .out) e (put .last .0) (l .at) 16 h k (put .ensures), append-assoc, r .ensures .0, c .before .before .before .before .before .before .event .ensures)
-          (l .inv .5 ∙ ap (λ x. take (l .at) (l .out) ++ joined x) (key-at (l .s) (a .p .now) (a .n) (l .i) (omega arith))),
+      tail-drop (l .out) e (put .last .1 .1 .0) (l .at) (16 * m) h k (put .ensures) ∙ sym (drop-drop (16 * m) (l .at) (l .out)) ∙ ap (drop (16 * m)) (l .inv .4) ∙ drop-drop (16 * m) (l .at) (o .args .out .now),
+      rw (tail-take (l .out) e (put .last .1 .1 .0) (l .at) (16 * m) h k (put .ensures), append-assoc) (l .inv .5 ∙ ap (λ x. take (l .at) (l .out) ++ x) f),
     )
 
 same-length : tie.Need-same-length Inv-loop μ-loop
@@ -93,12 +114,17 @@ put-answers-spec =
     Inv-loop
     μ-loop
     loop-holds
-    event-requires
-    advance-requires
-    sub-put-answer
-    part-put-answer-start
-    part-put-answer-end
-    put-answer-requires
+    sub-few
+    few-requires
+    events-requires
+    cast-play
+    play-requires
+    sub-put-few
+    part-put-few-start
+    part-put-few-end
+    put-few-requires
+    cast-at
+    mul-at
     add-at
     add-i
     loop-less

@@ -9,7 +9,7 @@ use lib.ListN.{length}
 use Rattle.rules.proofs.States.{sound-stays}
 use Rattle.papers.specs.Events.{eventsFrom}
 use Rattle.papers.proofs.Sheets.{header-long}
-use Rattle.marker.specs.Key.{answersFrom}
+use Rattle.rules.specs.Play.{answersFrom}
 use Rattle.marker.proofs.Places.{answers-count, joined-long}
 use Rattle.marker.proofs.Turns.{copied, key-put}
 

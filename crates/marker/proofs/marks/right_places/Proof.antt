@@ -4,14 +4,18 @@ use Rattle.marker.proofs.marks.right_places.Statement.{statement}
 use Rattle.marker.proofs.marks.right_places.Tie as tie
 use Prim.Native.Nat.{_+_, _-_, _*_, _≤_}
 use mathlib.Core.Path.{_≡_, sym, _∙_}
-use mathlib.Core.Bool.{true, cond}
-use mathlib.Core.Logic.{⊎-elim}
+use mathlib.Core.Bool.{true}
+use mathlib.Core.List.{map}
 use native.Mathlib.Nat.{zero-add, add-zero}
 use native.Mathlib.Omega.{arith}
+use lib.ListN.{length, take}
 use Rattle.rules.specs.Sound.{sound}
-use Rattle.papers.specs.Answers.{placesFrom}
+use Rattle.rules.specs.Play.{answersFrom, stateFrom}
+use Rattle.papers.specs.Events.{eventsFrom}
+use Rattle.papers.specs.Answers.{answerBytes, placesFrom}
 use Rattle.marker.specs.Mark.{rightPlaces}
-use Rattle.marker.proofs.Turns.{left, key-at, sheet-at}
+use Rattle.marker.proofs.Places.{answers-count, right-most}
+use Rattle.marker.proofs.Turns.{left, left-more, sheet-more, places-count, right-both, played}
 
 -- what is counted, and what is left of the two lists
 abbrev Inv-loop : tie.InvT-loop
@@ -21,39 +25,41 @@ Inv-loop s₀ p sheet n right₀ i₀ s right i =
 abbrev μ-loop : tie.MeasureT-loop
 μ-loop s₀ p sheet n right₀ i₀ s right i = n - i
 
--- in a turn: the place at hand, and what is left after it
-turn : (c : tie.After-same-bytes Inv-loop μ-loop)
-    → (let l = c .before .before .before .before .before .before .loop in let a = c .before .before .before .before .before .before .before .before .before .args in
-    rightPlaces (left (a .s) (a .p .now) (a .n) 0) (placesFrom (a .sheet .now) 6 (a .n))
-    ≡ l .right + (cond (c .same-bytes .result) 1 0 + rightPlaces (left (c .before .before .before .advance .result .state) (a .p .now) (a .n) (l .i + 1)) (placesFrom (a .sheet .now) (6 + 16 * (l .i + 1)) (a .n - (l .i + 1)))))
-turn c =
-    let l = c .before .before .before .before .before .before .loop in
-    let a = c .before .before .before .before .before .before .before .before .before .args in
-    rw (c .same-bytes .ensures, c .before .place .ensures, c .before .before .answer-bytes .ensures, c .before .before .before .advance .ensures .0, c .before .before .before .before .event .ensures)
-    (l .inv .3 ∙ rw (key-at (l .s) (a .p .now) (a .n) (l .i) (omega arith), sheet-at (a .sheet .now) (a .n) (l .i) (omega arith)))
+-- a part has no more places right than it has
+most : (c : tie.After-right-few Inv-loop μ-loop) → c .right-few .result ≤ c .before .before .before .before .few .result
+most c =
+    let o = c .before .before .before .before .before .before .before .before .before in
+    let x = map answerBytes (take (c .before .before .before .before .few .result) (c .before .before .play .result .answers)) in
+    let y = placesFrom (o .args .sheet .now) (6 + 16 * c .before .before .before .before .before .before .loop .i) (c .before .before .before .before .few .result) in
+    let k = right-most x y in
+    let n : length y ≡ c .before .before .before .before .few .result = places-count (o .args .sheet .now) (6 + 16 * c .before .before .before .before .before .before .loop .i) (c .before .before .before .before .few .result) in
+    omega (arith, k, n, c .right-few .ensures)
 
 loop-holds : tie.Need-loop-holds Inv-loop μ-loop
 loop-holds c =
     let z : c .before .before .args .n - 0 ≡ c .before .before .args .n = omega arith in
     (search needs, search needs, c .before .before .pre, rw (zero-add, z))
 
-event-requires : tie.Need-event-requires Inv-loop μ-loop
-event-requires c κs = search needs
+sub-few : tie.Need-sub-few Inv-loop μ-loop
+sub-few c = search needs
 
-advance-requires : tie.Need-advance-requires Inv-loop μ-loop
-advance-requires c κs = search needs
+few-requires : tie.Need-few-requires Inv-loop μ-loop
+few-requires c κs = search needs
 
-answer-bytes-requires : tie.Need-answer-bytes-requires Inv-loop μ-loop
-answer-bytes-requires c κs = search needs
+events-requires : tie.Need-events-requires Inv-loop μ-loop
+events-requires c κs = search needs
 
-place-requires : tie.Need-place-requires Inv-loop μ-loop
-place-requires c κs = search needs
+cast-play : tie.Need-cast-play Inv-loop μ-loop
+cast-play c = search needs
 
-same-bytes-requires : tie.Need-same-bytes-requires Inv-loop μ-loop
-same-bytes-requires c κs = search needs
+play-requires : tie.Need-play-requires Inv-loop μ-loop
+play-requires c κs = search needs
+
+right-few-requires : tie.Need-right-few-requires Inv-loop μ-loop
+right-few-requires c κs = search needs
 
 add-right : tie.Need-add-right Inv-loop μ-loop
-add-right c = search needs
+add-right c = let b = most c in let t = c .before .before .before .before .before .loop-test .taken in omega (arith, b, c .before .before .before .before .before .before .loop .inv .1, c .before .before .before .before .few .ensures, t)
 
 add-i : tie.Need-add-i Inv-loop μ-loop
 add-i c = search needs
@@ -63,11 +69,25 @@ loop-less c = search needs
 
 loop-again : tie.Need-loop-again Inv-loop μ-loop
 loop-again c =
-    let at-same = c .before .before in (
+    let o = c .before .before .before .before .before .before .before .before .before .before in
+    let l = c .before .before .before .before .before .before .before .loop in
+    let r = c .before .before .before .play in
+    let m = c .before .before .before .before .before .few .result in
+    let p = o .args .p .now in
+    let s = o .args .sheet .now in
+    let n = o .args .n in
+    let t = c .before .before .before .before .before .before .loop-test .taken in
+    let w = played (l .s) p (l .i) m (c .before .before .before .before .events .result) (r .result .answers) (r .result .state) (c .before .before .before .before .events .ensures) (r .ensures .0) (r .ensures .1) in
+    let g : l .i + m ≤ n = omega (arith, c .before .before .before .before .before .few .ensures, t) in
+    let k = answers-count (l .s) p (12 + 20 * l .i) m ∙ sym (places-count s (6 + 16 * l .i) m) in
+    let f : rightPlaces (left (l .s) p n (l .i)) (placesFrom s (6 + 16 * l .i) (n - l .i)) ≡ c .before .right-few .result + rightPlaces (left (r .result .state) p n (l .i + m)) (placesFrom s (6 + 16 * (l .i + m)) (n - (l .i + m))) =
+    rw (left-more (l .s) p n (l .i) m g, sheet-more s n (l .i) m g, c .before .right-few .ensures, w .0, w .1) (right-both (map answerBytes (answersFrom (l .s) (eventsFrom p (12 + 20 * l .i) m))) (left (stateFrom (l .s) (eventsFrom p (12 + 20 * l .i) m)) p n (l .i + m)) (placesFrom s (6 + 16 * l .i) m) (placesFrom s (6 + 16 * (l .i + m)) (n - (l .i + m))) k) in
+    let b = most (c .before) in
+    let e = rw f at (l .inv .3) in (
       search needs,
-      ⊎-elim (λ w. omega arith) (λ w. omega arith) (c .before .if1 .came),
-      c .before .before .before .before .before .advance .ensures .1,
-      ⊎-elim (λ w. let t = rw (w .0 .taken) at (turn at-same) in omega arith) (λ w. let t = rw (w .0 .left) at (turn at-same) in omega arith) (c .before .if1 .came),
+      omega (arith, b, l .inv .1),
+      r .ensures .2,
+      omega (arith, e),
     )
 
 returns : tie.Need-returns Inv-loop μ-loop
@@ -85,11 +105,12 @@ right-places-spec =
     Inv-loop
     μ-loop
     loop-holds
-    event-requires
-    advance-requires
-    answer-bytes-requires
-    place-requires
-    same-bytes-requires
+    sub-few
+    few-requires
+    events-requires
+    cast-play
+    play-requires
+    right-few-requires
     add-right
     add-i
     loop-less

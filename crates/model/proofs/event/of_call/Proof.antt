@@ -4,7 +4,7 @@ use Rattle.model.proofs.event.of_call.Statement.{statement}
 use Rattle.model.proofs.event.of_call.Tie as tie
 use mathlib.Core.Path.{refl}
 use Rattle.rules.specs.Calls.{doCall}
-use Rattle.model.specs.Course.{follows}
+use Rattle.model.specs.Course.{ownTurn, follows}
 
 enum-known-c : tie.Need-enum-known-c
 enum-known-c c = search needs
@@ -25,27 +25,27 @@ enum-told-5 : tie.Need-enum-told-5
 enum-told-5 c = search needs
 
 returns : tie.Need-returns
-unfolding follows doCall
+unfolding follows ownTurn doCall
 returns c = λ s p e. rw (c .before .c .given .1) refl
 
 returns-2 : tie.Need-returns-2
-unfolding follows doCall
+unfolding follows ownTurn doCall
 returns-2 c = λ s p e. rw (c .enum-told .given .1) refl
 
 returns-3 : tie.Need-returns-3
-unfolding follows doCall
+unfolding follows ownTurn doCall
 returns-3 c = λ s p e. rw (c .enum-told2 .given .1) refl
 
 returns-4 : tie.Need-returns-4
-unfolding follows doCall
+unfolding follows ownTurn doCall
 returns-4 c = λ s p e. rw (c .enum-told3 .given .1) refl
 
 returns-5 : tie.Need-returns-5
-unfolding follows doCall
+unfolding follows ownTurn doCall
 returns-5 c = λ s p e. rw (c .enum-told4 .given .1) refl
 
 returns-6 : tie.Need-returns-6
-unfolding follows doCall
+unfolding follows ownTurn doCall
 returns-6 c = λ s p e. rw (c .enum-told5 .given .1) refl
 
 pub of-call-spec : {M : Type 1} → statement M

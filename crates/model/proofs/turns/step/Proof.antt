@@ -1,7 +1,7 @@
--- `model::event::step` meets its contract. Assumes nothing.
+-- `model::turns::step` meets its contract. Assumes nothing.
 use borrow.Author.Needs.{needs}
-use Rattle.model.proofs.event.step.Statement.{statement}
-use Rattle.model.proofs.event.step.Tie as tie
+use Rattle.model.proofs.turns.step.Statement.{statement}
+use Rattle.model.proofs.turns.step.Tie as tie
 use borrow.Author.Tests.{not-false}
 use mathlib.Core.Path.{refl}
 use Rattle.rules.specs.Step.{settled, stepOf}
