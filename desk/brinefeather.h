@@ -2,10 +2,11 @@
  * Brinefeather marks exam sheets: a paper asks what each of its events does to a small model of the Cromix-Plus
  * process, signal and lock calls, a sheet gives a trainee's answers, and a key gives the right ones.
  *
- * Link with libmarker.a, for x86-64. Both routines keep nothing between calls, allocate nothing, and may be called from
- * any thread that has 64 KB of stack (44 KB were the most that was measured). What the events mean and what is answered
- * to them, document 01 says (01-scope.md). All numbers in the files are big-endian. A file is refused, never
- * corrected, when its layout is off:
+ * Link with libbrinefeather.a, for x86-64: -lbrinefeather, or by pkg-config brinefeather. (In the repository it is
+ * target/staticlib/libmarker.a; `make install` installs it.) Both routines keep nothing between calls, allocate
+ * nothing, and may be called from any thread that has 64 KB of stack (44 KB were the most that was measured). What the
+ * events mean and what is answered to them, document 01 says (01-scope.md). All numbers in the files are big-endian.
+ * A file is refused, never corrected, when its layout is off:
  *
  *   paper   12 bytes of header as six 16-bit numbers: version 1; events 0..1000; where the events start, 12;
  *           sequences 0..64; where the sequences start, 12 + 20 x events; the file's length,
@@ -59,7 +60,8 @@ uint64_t brinefeather_mark(const uint8_t *paper, size_t paper_len, const uint8_t
  * having written exactly that many bytes from the start of the buffer and none after; or else a refusal number alone,
  * having written no byte: the first that applies of badpaper, blank, noroom. brinefeather_refused tells which it is.
  * The paper is not written. A null pointer with length 0 is an empty paper, or a buffer with no room. The buffer must
- * not share bytes with the paper, and is the call's alone while it runs. A buffer of BRINEFEATHER_LONGEST_KEY bytes has room for every key.
+ * not share bytes with the paper, and is the call's alone while it runs. A buffer of BRINEFEATHER_LONGEST_KEY bytes
+ * has room for every key.
  */
 uint64_t brinefeather_key(const uint8_t *paper, size_t paper_len, uint8_t *key, size_t key_len);
 

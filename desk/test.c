@@ -388,6 +388,6 @@ int main(void)
     flipped_bits("one bit of a conflict flipped", CONFLICT, 10, 0);
     flipped_bits("one bit of a blank paper flipped", BLANK_SEQUENCES, 0, BRINEFEATHER_BLANK);
     begin("");
-    printf("desk: %u checks, %u wrong\n", checks, wrong);
+    printf("vectors: %u checks, %u wrong\n", checks, wrong);
     return wrong != 0;
 }

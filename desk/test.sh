@@ -1,78 +1,278 @@
 #!/usr/bin/env bash
-# Builds the archive and tries it and the programs from outside: the C test, random papers against the plain C routines, then `mark` and `key` on files.
-# On x86-64 by gcc; elsewhere by a cross compiler, and the programs run under the kit's emulator.
-# shellcheck disable=SC2086 # the words of $packages, $link, $run and $load are meant to be split
+# Tries the archive, the programs, the samples, the demo and the installation from outside, as a user would; part of
+# `make test`, after rt ci. tools.sh says what is used on which machine.
+# shellcheck disable=SC2086,SC2154 # the words of $strict, $link, $run and $load are meant to be split; tools.sh gives them
 set -eu
 cd "$(dirname "$0")/.."
-kit=$(dirname "$(dirname "$(readlink -f "$(command -v rt)")")")
-machine=$(uname -m)
-if [ "$machine" = x86_64 ]; then
-    cc=gcc packages="gcc libc6-dev" link="" run="" load=""
-else
-    cc=x86_64-linux-gnu-gcc packages="gcc-x86-64-linux-gnu libc6-dev-amd64-cross" link=-static
-    run=$kit/on/$machine/toolchain/bin/qemu-x86_64
-    load="$run $kit/toolchain/lib/ld-linux-x86-64.so.2 --library-path $kit/toolchain/lib"
-fi
-command -v $cc > /dev/null || { apt-get update -qq && apt-get install -y -qq $packages > /dev/null; }
-
+# shellcheck source=desk/tools.sh
+. desk/tools.sh
+unset PAPER SHEET KEY PREFIX DESTDIR
+root=$PWD
+archive=target/staticlib/libmarker.a
 work=$(mktemp -d)
 trap 'rm -rf "$work"' EXIT
-rt staticlib marker > "$work/log" 2>&1 || { tail -n 20 "$work/log"; exit 1; }
-strict="-std=c11 -O2 -Wall -Wextra -pedantic -Wconversion -Werror"
-$cc $strict $link -o "$work/test" desk/test.c target/staticlib/libmarker.a
-$run "$work/test"
-$cc $strict $link -o "$work/compare" desk/trial/compare.c desk/plain/papers.c desk/plain/model.c target/staticlib/libmarker.a
-$run "$work/compare" 20 300 1 > "$work/log" || { cat "$work/log"; exit 1; }
-tail -n 1 "$work/log"
+
+fail() { echo "FAIL $*" >&2; exit 1; }
+
+# last WORD..: runs a command, shows its last line, or all that it said if it failed.
+last() {
+    "$@" > "$work/log" 2>&1 || { cat "$work/log" >&2; fail "$*"; }
+    tail -n 1 "$work/log"
+}
+
+# linked NAME FILE..: compiles a C program that links the archive.
+linked() {
+    local name=$1
+    shift
+    $cc $strict $link -o "$work/$name" "$@" $archive
+}
+
+build() {
+    need $cc $cc_packages
+    need $own_cc $own_cc_packages
+    quietly rt staticlib marker
+    quietly rt check mark key
+    linked desk desk/desk.c
+    $own_cc $strict -o "$work/transcribe" desk/transcribe.c
+}
+
+vectors() {
+    linked test desk/test.c
+    last $run "$work/test"
+}
+
+plain_model() {
+    $own_cc $strict -o "$work/plain-test" desk/plain-test.c desk/plain.c
+    last "$work/plain-test"
+    linked compare desk/compare.c desk/generate.c desk/observe.c desk/plain.c
+    last $run "$work/compare" 600 1
+}
 
 # ---- the programs, in a folder of their own: what mark prints, and the bytes of the file that key writes
-rt check mark key > "$work/log" 2>&1 || { tail -n 20 "$work/log"; exit 1; }
-programs=$PWD/target/bin
-cd "$work"
-tries=0
+
 bytes() { printf '%b' "$(printf '%s' "$*" | tr -d ' ' | sed 's/../\\x&/g')"; }
+
 prints() {
+    local said
     tries=$((tries + 1))
-    said=$($load "$programs/$1" 2>&1) || said="$said (status $?)"
-    [ "$said" = "$2" ] || { echo "FAIL $1, $3: '$said', and '$2' is right"; exit 1; }
+    said=$($load "$root/target/bin/$1" 2>&1) || said="$said (status $?)"
+    [ "$said" = "$2" ] || fail "$1, $3: '$said', and '$2' is right"
 }
+
 keeps() {
     tries=$((tries + 1))
-    bytes "$1" | cmp -s - key || { echo "FAIL key, $2: the file is not as it should be"; exit 1; }
+    bytes "$1" | cmp -s - key || fail "key, $2: the file is not as it should be"
 }
+
 zeros=00000000000000000000000000000000
 example="0001 0002 000C 0000 0034 0034 013A0001 $zeros 02000000 $zeros"
 answers="00000000000000000000000100000000 $zeros"
 
-prints mark "refused 15" "no files"
-prints key "refused 15" "no paper"
-bytes "$example" > paper
-prints mark "refused 17" "no sheet"
-bytes 0001 0000 0006 > sheet
-prints mark "total 2 right 0 missing 2 surplus 0 perfect no" "a blank sheet"
-prints key "" "the example"
-keeps "0001 0002 0006 $answers" "the example"
-cp key sheet
-prints mark "total 2 right 2 missing 0 surplus 0 perfect yes" "the key as a sheet"
-bytes "0001 0003 0006 $answers $zeros" > sheet
-prints mark "total 2 right 2 missing 0 surplus 1 perfect no" "an answer over"
-bytes 0001 0000 000C 0000 000C 000C > paper
-prints mark "refused 16" "a paper without events"
-bytes AA55 > key
-prints key "refused 16" "a paper without events"
-keeps AA55 "a refusal leaves an old file as it was"
-head -c 200000 /dev/zero > paper
-prints mark "refused 15" "an overlong paper"
-bytes "$example" > paper
-head -c 200000 /dev/zero >> paper
-prints mark "refused 15" "a paper with more behind it"
-bytes "$example" > paper
-head -c 200000 /dev/zero > sheet
-prints mark "refused 17" "an overlong sheet"
-rm sheet
-mkdir sheet
-prints mark "refused 17" "a folder for a sheet"
-rm paper
-mkdir paper
-prints mark "refused 15" "a folder for a paper"
-echo "programs: $tries checks, 0 wrong"
+try_good_files() {
+    bytes "$example" > paper
+    bytes 0001 0000 0006 > sheet
+    prints mark "total 2 right 0 missing 2 surplus 0 perfect no" "a blank sheet"
+    prints key "" "the example"
+    keeps "0001 0002 0006 $answers" "the example"
+    cp key sheet
+    prints mark "total 2 right 2 missing 0 surplus 0 perfect yes" "the key as a sheet"
+    bytes "0001 0003 0006 $answers $zeros" > sheet
+    prints mark "total 2 right 2 missing 0 surplus 1 perfect no" "an answer over"
+}
+
+try_missing_files() {
+    prints mark "refused 15" "no files"
+    prints key "refused 15" "no paper"
+    bytes "$example" > paper
+    prints mark "refused 17" "no sheet"
+    mkdir sheet
+    prints mark "refused 17" "a folder for a sheet"
+    rmdir sheet
+    rm paper
+    mkdir paper
+    prints mark "refused 15" "a folder for a paper"
+    rmdir paper
+}
+
+try_bad_files() {
+    bytes 0001 0000 000C 0000 000C 000C > paper
+    prints mark "refused 16" "a paper without events"
+    bytes AA55 > key
+    prints key "refused 16" "a paper without events"
+    keeps AA55 "a refusal leaves an old file as it was"
+    head -c 200000 /dev/zero > paper
+    prints mark "refused 15" "an overlong paper"
+    bytes "$example" > paper
+    head -c 200000 /dev/zero >> paper
+    prints mark "refused 15" "a paper with more behind it"
+    bytes "$example" > paper
+    head -c 200000 /dev/zero > sheet
+    prints mark "refused 17" "an overlong sheet"
+}
+
+programs() {
+    tries=0
+    mkdir "$work/programs"
+    cd "$work/programs"
+    try_missing_files
+    try_good_files
+    try_bad_files
+    cd "$root"
+    echo "programs: $tries checks, 0 wrong"
+}
+
+# ---- the desk program: its lines, its words on standard error, its status
+
+# desk_says STATUS OUT ERR WORD..
+desk_says() {
+    local status=0 wanted=$1 out=$2 err=$3
+    shift 3
+    tries=$((tries + 1))
+    $run "$work/desk" "$@" > out 2> err || status=$?
+    [ $status = "$wanted" ] || fail "desk $*: status $status, and $wanted is right"
+    [ "$(< out)" = "$out" ] || fail "desk $*: '$(< out)', and '$out' is right"
+    [ "$(< err)" = "$err" ] || fail "desk $*, on standard error: '$(< err)', and '$err' is right"
+}
+
+# The longest legal paper and sheet, and each with one byte more.
+desk_files() {
+    bytes "$example" > paper
+    bytes 0001 0000 0006 > blank
+    bytes "0001 0002 0006 $answers" > full
+    bytes 0001 0000 000C 0000 000C 000C > none
+    { bytes 0001 03E8 0006; head -c 16000 /dev/zero; } > thousand
+    { bytes 0001 03E8 000C 0040 4E2C 522C; head -c 21024 /dev/zero; } > events
+    { cat thousand; bytes 00; } > long
+    { cat events; bytes 00; } > overlong
+}
+
+desk() {
+    local blank="blank: total 2 right 0 missing 2 surplus 0 perfect no" full="full: total 2 right 2 missing 0 surplus 0 perfect yes"
+    local thousand="thousand: total 2 right 1 missing 0 surplus 998 perfect no" off="refused 17 (badsheet: the sheet's layout is off)"
+    tries=0
+    mkdir "$work/files"
+    cd "$work/files"
+    desk_files
+    desk_says 64 "" "usage: desk PAPER [SHEET...]"
+    desk_says 0 "all: sheets 0 marked 0 perfect 0 refused 0 right 0" "" paper
+    desk_says 0 "all: sheets 0 marked 0 perfect 0 refused 0 right 0" "" events
+    desk_says 0 "$blank"$'\n'"$full"$'\n'"$thousand"$'\n'"all: sheets 3 marked 3 perfect 1 refused 0 right 3" "" paper blank full thousand
+    desk_says 1 "long: $off"$'\n'"$full"$'\n'"all: sheets 2 marked 1 perfect 1 refused 1 right 2" "" paper long full
+    desk_says 1 "gone: $off"$'\n'"all: sheets 1 marked 0 perfect 0 refused 1 right 0" \
+        "desk: gone: No such file or directory (it counts as empty)" paper gone
+    desk_says 2 "none: refused 16 (blank: the paper has no events)" "" none blank
+    desk_says 2 "full: refused 15 (badpaper: the paper's layout is off)" "" full blank
+    desk_says 2 "overlong: refused 15 (badpaper: the paper's layout is off)" "" overlong blank
+    desk_says 2 ".: refused 15 (badpaper: the paper's layout is off)" "desk: .: Is a directory (it counts as empty)" . blank
+    cd "$root"
+    echo "desk: $tries checks, 0 wrong"
+}
+
+# ---- the samples: made anew they are the same, and the desk program finds the marks that mark does
+
+samples() {
+    local folder
+    last desk/transcribe-test.sh
+    last examples/test.sh
+    for folder in examples/*/; do
+        (cd "$folder" && $run "$work/desk" paper ./*.sheet) | sed '$d; s|^./||' | cmp -s - "${folder}marks" || fail "desk on $folder"
+    done
+}
+
+# ---- the demo: the marks of the samples again, and a user's own files
+
+# demo_says WHAT LINE WORD..: runs the demo with these settings; it must print this line.
+demo_says() {
+    local what=$1 line=$2
+    shift 2
+    tries=$((tries + 1))
+    env "$@" examples/demo.sh > "$work/log" 2>&1 || true
+    grep -qxF -- "$line" "$work/log" || { cat "$work/log"; fail "demo, $what: '$line' is not there"; }
+}
+
+demo() {
+    local folder line own="$work/my own.sheet" mark
+    tries=0
+    examples/demo.sh > "$work/demo" 2>&1 || { cat "$work/demo"; fail "make demo"; }
+    for folder in examples/*/; do
+        while read -r line; do
+            tries=$((tries + 1))
+            grep -qxF -- "$folder$line" "$work/demo" || fail "make demo: '$folder$line' is not there"
+        done < "${folder}marks"
+    done
+    cp examples/table/slip.sheet "$own"
+    mark=$(sed -n 's/^slip.sheet: //p' examples/table/marks)
+    demo_says "one's own sheet" "$own: $mark" PAPER=examples/table/paper SHEET="$own"
+    demo_says "two in words" "examples/table/slip.txt: $mark" PAPER=examples/table/paper.txt \
+        SHEET="examples/table/blank.sheet examples/table/slip.txt"
+    demo_says "a key" "The key is in the file $work/my key." PAPER=examples/table/paper.txt KEY="$work/my key"
+    cmp -s "$work/my key" examples/table/key || fail "demo: the key is another"
+    demo_says "no paper" "Which paper is it? Add PAPER=file." SHEET="$own"
+    demo_says "no file" "There is no file nofile." PAPER=nofile SHEET="$own"
+    echo "demo: $tries checks, 0 wrong"
+}
+
+# ---- the installation: a C program that sees the installed files only, the programs and the manual pages
+
+# The lines of a quotation in a manual page, and in the README, are those of desk/example.c.
+example_is_quoted() {
+    sed -n '/^\.EX$/,/^\.EE$/p' desk/man/brinefeather.3 | sed '1d; /^\.EE$/,$d; s/\\e/\\/g' | cmp - desk/example.c \
+        || fail "brinefeather(3) quotes another example than desk/example.c"
+    grep -A 2 -F 'brinefeather_mark(paper, paper_len, sheet, sheet_len);' desk/example.c > "$work/lines"
+    grep -A 2 -F 'brinefeather_mark(paper, paper_len, sheet, sheet_len);' README.md | cmp - "$work/lines" \
+        || fail "the README quotes another example than desk/example.c"
+}
+
+example_compiles() {
+    local flags
+    need pkg-config pkg-config
+    flags=$(PKG_CONFIG_PATH="$1/lib/pkgconfig" pkg-config --cflags --libs brinefeather)
+    mkdir "$work/elsewhere"
+    cp desk/example.c "$work/elsewhere"
+    (cd "$work/elsewhere" && $cc $strict $link -o example example.c $flags)
+    [ "$($run "$work/elsewhere/example")" = "0 of 2 right"$'\n'"2 of 2 right" ] || fail "the example against the installed files"
+}
+
+installed_programs_run() {
+    local line
+    line=$($run "$1/bin/desk" examples/table/paper examples/table/perfect.sheet | tail -n 1)
+    [[ $line == "all: sheets 1 marked 1 perfect 1 "* ]] || fail "the installed desk: '$line'"
+    "$1/bin/transcribe" show examples/table/paper > /dev/null || fail "the installed transcribe"
+    mkdir "$work/desk-top"
+    cp examples/table/paper "$work/desk-top/paper"
+    cp examples/table/key "$work/desk-top/sheet"
+    line=$(cd "$work/desk-top" && $load "$1/bin/mark")
+    [[ $line == *"perfect yes" ]] || fail "the installed mark: '$line'"
+    (cd "$work/desk-top" && $load "$1/bin/key" && cmp -s key sheet) || fail "the installed key"
+}
+
+# Each page is there, is named as its program is, and groff has nothing to say of it.
+pages_read_well() {
+    local page said
+    need groff groff-base
+    for page in mark.1 key.1 desk.1 transcribe.1 brinefeather.3; do
+        [ -s "$1/man${page##*.}/$page" ] || fail "no manual page $page"
+        said=$(groff -ww -z -man -Tutf8 "$1/man${page##*.}/$page" 2>&1)
+        [ -z "$said" ] || fail "manual page: $said"
+    done
+}
+
+installation() {
+    local prefix=$work/prefix
+    example_is_quoted
+    quietly make --no-print-directory install PREFIX="$prefix"
+    example_compiles "$prefix"
+    installed_programs_run "$prefix"
+    pages_read_well "$prefix/share/man"
+    echo "installation: $(find "$prefix" -type f | wc -l) files, the example compiled and ran"
+}
+
+build
+vectors
+plain_model
+programs
+desk
+samples
+demo
+installation
+desk/check-c.sh

@@ -1,7 +1,11 @@
-/* In-place model of the process, signal and lock system of document 01. */
-#ifndef MODEL_H
-#define MODEL_H
+/*
+ * Document 01 in plain C, in place: the model of the process, signal and lock calls, and paper, sheet, key and mark
+ * over it. Written from the document; plain_mark and plain_key are as the two routines of brinefeather.h.
+ */
+#ifndef PLAIN_H
+#define PLAIN_H
 
+#include <stddef.h>
 #include <stdint.h>
 
 enum { PROCESSES = 16, ROWS = 32, SIGNALS = 7, SEQ = 16 };
@@ -11,7 +15,7 @@ enum { DONE, ASLEEP, ENDED, REFUSED };
 enum {
     R_BADSTATE = 1, R_BADCALLER, R_ASLEEP, R_TRAP, R_BADCALL, R_NOTMODELLED,
     R_PRIV, R_NOPROC, R_NOMEMORY, R_HELD, R_LOCKED, R_DEADLOCK, R_LCKTABLE,
-    R_NOTLOCKED
+    R_NOTLOCKED, R_BADPAPER, R_BLANK, R_BADSHEET, R_NOROOM
 };
 enum { SLEEP_NONE, SLEEP_PAUSE, SLEEP_LOCK, SLEEP_TIMED };
 enum { WAKE_NEVER, WAKE_GRANTED, WAKE_SIGNAL, WAKE_TIME };
@@ -61,5 +65,8 @@ struct answer {
 
 void state_fresh(struct state *st);
 void state_event(struct state *st, const struct event *ev, struct answer *an);
+
+uint64_t plain_mark(const uint8_t *paper, size_t paper_len, const uint8_t *sheet, size_t sheet_len);
+uint64_t plain_key(const uint8_t *paper, size_t paper_len, uint8_t *key, size_t key_len);
 
 #endif

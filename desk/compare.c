@@ -1,0 +1,447 @@
+/*
+ * Plays generated papers, their sheets and damaged files through the archive's two routines and through the plain ones,
+ * and compares every byte. Usage: compare PAPERS SEED. Fails too when an answer, refusal, call, edge or situation that
+ * can be reached was not: 600 papers reach all of them.
+ */
+#include <inttypes.h>
+#include <stdio.h>
+#include <stdlib.h>
+#include <string.h>
+#include "brinefeather.h"
+#include "generate.h"
+#include "observe.h"
+#include "plain.h"
+
+#define COUNT(list) (sizeof (list) / sizeof (list)[0])
+#define ONE_OF(list) ((list)[below(COUNT(list))])
+
+enum { PAPER_HEADER = 12, EVENT = 20, SHEET_HEADER = 6, ANSWER = 16, MOST = 1000 };
+enum { GUARD = 64, OVER = 65536, STORE = BRINEFEATHER_LONGEST_PAPER + OVER + 24 };
+enum { SHEETS = 2, DAMAGED_PAPERS = 6 }; /* of each paper; a damaged sheet comes with each */
+
+struct file {
+    uint8_t bytes[STORE];
+    size_t len;
+};
+
+static enum generate_theme theme;
+static uint64_t refusals[19], papers, events_played, damaged, different;
+
+/* ---- chance and files ---- */
+
+static uint64_t draw(void)
+{
+    return generate_draw();
+}
+
+static uint16_t below(size_t n)
+{
+    return generate_below(n);
+}
+
+static int one_in(size_t n)
+{
+    return generate_one_in(n);
+}
+
+static unsigned get16(const uint8_t *at)
+{
+    return at[0] * 256u + at[1];
+}
+
+static void put16(uint8_t *at, size_t n)
+{
+    at[0] = (uint8_t)(n >> 8);
+    at[1] = (uint8_t)n;
+}
+
+static size_t event_count(const struct file *paper)
+{
+    return get16(paper->bytes + 2);
+}
+
+static void copy(struct file *to, const struct file *from)
+{
+    memcpy(to->bytes, from->bytes, from->len);
+    to->len = from->len;
+}
+
+static void put_sheet_header(struct file *sheet, size_t answers)
+{
+    put16(sheet->bytes, 1);
+    put16(sheet->bytes + 2, answers);
+    put16(sheet->bytes + 4, SHEET_HEADER);
+    sheet->len = SHEET_HEADER + ANSWER * answers;
+}
+
+/* The first so many events of a paper, with all its sequences. */
+static void keep_events(struct file *paper, size_t events)
+{
+    const size_t old_start = get16(paper->bytes + 8), size = get16(paper->bytes + 10) - old_start;
+    const size_t start = PAPER_HEADER + EVENT * events;
+
+    put16(paper->bytes + 2, events);
+    put16(paper->bytes + 8, start);
+    put16(paper->bytes + 10, start + size);
+    memmove(paper->bytes + start, paper->bytes + old_start, size);
+    paper->len = start + size;
+}
+
+/* ---- the two side by side ---- */
+
+static void differ(const char *what, uint64_t ours, uint64_t plains)
+{
+    if (different++ < 20)
+        printf("DIFFERENT paper %" PRIu64 " (%s), %s: %016" PRIX64 ", plain %016" PRIX64 "\n", papers,
+               generate_name(theme), what, ours, plains);
+}
+
+static uint8_t *block(size_t len)
+{
+    uint8_t *bytes = malloc(len ? len : 1);
+
+    if (!bytes)
+        abort();
+    return bytes;
+}
+
+/* A copy with nothing behind it, so that a memory checker sees a read too far. Empty may be a null pointer. */
+static uint8_t *lend(const struct file *f)
+{
+    uint8_t *bytes = f->len || one_in(2) ? block(f->len) : NULL;
+
+    if (bytes)
+        memcpy(bytes, f->bytes, f->len);
+    return bytes;
+}
+
+static void take_back(const char *what, uint8_t *bytes, const struct file *f)
+{
+    if (bytes && memcmp(bytes, f->bytes, f->len) != 0)
+        differ(what, 0, 1);
+    free(bytes);
+}
+
+static void count_refusal(uint64_t n)
+{
+    if (brinefeather_refused(n))
+        refusals[n]++;
+}
+
+static void saw(enum observe_situation situation, int condition)
+{
+    if (condition)
+        observe_saw(situation);
+}
+
+/* Beside a paper that is good. */
+static int bad_sheet(const struct file *sheet)
+{
+    static const uint8_t good[PAPER_HEADER + EVENT] = {0, 1, 0, 1, 0, 12, 0, 0, 0, 32, 0, 32, 2};
+
+    return plain_mark(good, sizeof good, sheet->bytes, sheet->len) == R_BADSHEET;
+}
+
+static void see_mark(uint64_t mark, const struct file *sheet)
+{
+    const unsigned total = brinefeather_total(mark), right = brinefeather_right(mark);
+    const unsigned missing = brinefeather_missing(mark), surplus = brinefeather_surplus(mark);
+
+    saw(OBSERVE_BAD_BOTH, mark == R_BADPAPER && bad_sheet(sheet));
+    saw(OBSERVE_BLANK_SHEET, mark == R_BLANK && bad_sheet(sheet));
+    if (brinefeather_refused(mark))
+        return;
+    saw(OBSERVE_PERFECT, brinefeather_perfect(mark));
+    saw(OBSERVE_NONE_RIGHT, right == 0 && missing < total);
+    saw(OBSERVE_MISSING, missing != 0);
+    saw(OBSERVE_SURPLUS, surplus != 0);
+    saw(OBSERVE_RIGHT_SURPLUS, right == total && surplus != 0);
+    saw(OBSERVE_EMPTY_SHEET, missing == total);
+}
+
+static uint64_t compare_marks(const char *what, const struct file *paper, const struct file *sheet)
+{
+    uint8_t *p = lend(paper), *s = lend(sheet);
+    uint64_t ours = brinefeather_mark(p, paper->len, s, sheet->len);
+    uint64_t plains = plain_mark(p, paper->len, s, sheet->len);
+
+    if (ours != plains)
+        differ(what, ours, plains);
+    take_back("paper written", p, paper);
+    take_back("sheet written", s, sheet);
+    count_refusal(plains);
+    see_mark(plains, sheet);
+    return ours;
+}
+
+static int all(const uint8_t *bytes, size_t len, uint8_t value)
+{
+    for (size_t i = 0; i < len; i++)
+        if (bytes[i] != value)
+            return 0;
+    return 1;
+}
+
+/* Are the bytes around the buffer, and those of the buffer after a key of n bytes, as they were? */
+static int kept(const uint8_t *area, size_t room, uint64_t n, uint8_t guard)
+{
+    size_t written = brinefeather_refused(n) ? 0 : (size_t)n;
+
+    return all(area, GUARD, guard) && written <= room && all(area + GUARD + written, room - written + GUARD, guard);
+}
+
+static void show(const char *what, const uint8_t *bytes, size_t len)
+{
+    printf("    %s", what);
+    for (size_t i = 0; i < len; i++)
+        printf("%s%02X", i % 4 ? "" : " ", bytes[i]);
+    putchar('\n');
+}
+
+/* The event and its two answers, if the byte is of an answer. */
+static void show_event(const struct file *paper, const uint8_t *ours, const uint8_t *plains, size_t at)
+{
+    const size_t start = GUARD + SHEET_HEADER, event = at < start ? MOST : (at - start) / ANSWER;
+
+    if (event >= event_count(paper) || different > 20)
+        return;
+    show("event ", paper->bytes + PAPER_HEADER + EVENT * event, EVENT);
+    show("answer", ours + start + ANSWER * event, ANSWER);
+    show("plain ", plains + start + ANSWER * event, ANSWER);
+}
+
+static void compare_bytes(const char *what, const struct file *paper, const uint8_t *ours, const uint8_t *plains,
+                          size_t size)
+{
+    char place[100];
+    size_t i = 0;
+
+    while (i < size && ours[i] == plains[i])
+        i++;
+    if (i == size)
+        return;
+    snprintf(place, sizeof place, "%s, byte %zu of guard %d and buffer", what, i, GUARD);
+    differ(place, ours[i], plains[i]);
+    show_event(paper, ours, plains, i);
+}
+
+static void see_key(uint64_t length, size_t room)
+{
+    saw(OBSERVE_BAD_ROOM, length == R_BADPAPER && room < brinefeather_key_length(1));
+    saw(OBSERVE_BLANK_ROOM, length == R_BLANK && room < brinefeather_key_length(1));
+}
+
+static void compare_keys(const char *what, const struct file *paper, size_t room, struct file *key)
+{
+    const size_t size = GUARD + room + GUARD;
+    const uint8_t guard = (uint8_t)draw();
+    uint8_t *p = lend(paper), *ours = block(size), *plains = block(size);
+    uint64_t our_length, plain_length;
+
+    memset(ours, guard, size);
+    memset(plains, guard, size);
+    our_length = brinefeather_key(p, paper->len, room || one_in(2) ? ours + GUARD : NULL, room);
+    plain_length = plain_key(p, paper->len, plains + GUARD, room);
+    if (our_length != plain_length)
+        differ(what, our_length, plain_length);
+    compare_bytes(what, paper, ours, plains, size);
+    if (!kept(ours, room, our_length, guard))
+        differ("a byte beside the key written", our_length, plain_length);
+    take_back("paper written", p, paper);
+    count_refusal(plain_length);
+    see_key(plain_length, room);
+    key->len = brinefeather_refused(plain_length) ? 0 : (size_t)plain_length;
+    memcpy(key->bytes, plains + GUARD, key->len);
+    free(ours);
+    free(plains);
+}
+
+/* ---- damage ---- */
+
+static void flip_bit(uint8_t *bytes, size_t len)
+{
+    size_t at = below(len);
+
+    bytes[at] ^= (uint8_t)(1u << below(8));
+}
+
+/* By a little, to anything, or by what 16 bits do not see. */
+static void damage_length(struct file *f)
+{
+    size_t old = f->len, step = 1u + below(24);
+
+    switch (below(5)) {
+    case 0: f->len = below(one_in(2) ? f->len : PAPER_HEADER + 1); break;
+    case 1: f->len -= f->len < step ? f->len : step; break;
+    case 2: f->len += 1; break;
+    case 3: f->len += step; break;
+    default: f->len += OVER; break;
+    }
+    for (size_t i = old; i < f->len; i++)
+        f->bytes[i] = (uint8_t)draw();
+}
+
+static void damage_header(struct file *f, size_t header)
+{
+    static const uint16_t numbers[] = {0, 1, 2, 5, 6, 7, 11, 12, 13, 63, 64, 65, 999, 1000, 1001, 32768, 65535};
+    uint8_t *at = f->bytes + 2 * below(header / 2);
+
+    if (one_in(2))
+        flip_bit(f->bytes, header);
+    else if (one_in(2))
+        put16(at, ONE_OF(numbers));
+    else
+        put16(at, get16(at) + (one_in(2) ? 1u : 65535u));
+}
+
+static void damage_paper(struct file *paper, size_t events)
+{
+    uint8_t *event = paper->bytes + PAPER_HEADER + EVENT * below(events);
+
+    switch (below(6)) {
+    case 0: damage_header(paper, PAPER_HEADER); break;
+    case 1: damage_length(paper); break;
+    case 2: put16(event + 18, get16(paper->bytes + 6) + below(3)); break;
+    case 3: put16(event + 18, one_in(2) ? 65535 : draw()); break;
+    case 4: keep_events(paper, one_in(4) ? 0 : below(events)); break; /* fewer events, or blank */
+    default:
+        for (unsigned n = 1u + below(20); n; n--) /* other events, seldom another layout */
+            flip_bit(paper->bytes + PAPER_HEADER, EVENT * events);
+        break;
+    }
+}
+
+static void damage_sheet(struct file *sheet)
+{
+    if (one_in(2))
+        damage_header(sheet, SHEET_HEADER);
+    else
+        damage_length(sheet);
+}
+
+static void damage_answers(struct file *sheet, size_t answers)
+{
+    for (unsigned n = 1u + below(one_in(2) ? 4 : 400); n; n--)
+        flip_bit(sheet->bytes + SHEET_HEADER, ANSWER * answers);
+}
+
+static void lengthen_sheet(struct file *sheet, size_t from, size_t to)
+{
+    for (size_t i = SHEET_HEADER + ANSWER * from; i < SHEET_HEADER + ANSWER * to; i++)
+        sheet->bytes[i] = (uint8_t)draw();
+    put_sheet_header(sheet, to);
+}
+
+/* ---- a paper's play ---- */
+
+static void play_sheets(const struct file *paper, const struct file *key, size_t events)
+{
+    static struct file sheet;
+
+    if (!brinefeather_perfect(compare_marks("key as sheet", paper, key)))
+        differ("key as sheet not perfect", 0, 0);
+    for (int i = 0; i < SHEETS; i++) {
+        copy(&sheet, key);
+        damage_answers(&sheet, events);
+        compare_marks("other answers", paper, &sheet);
+        put_sheet_header(&sheet, one_in(8) ? 0 : below(events));
+        compare_marks("shorter sheet", paper, &sheet);
+        copy(&sheet, key);
+        lengthen_sheet(&sheet, events, events + below(MOST + 2 - events));
+        compare_marks("longer sheet", paper, &sheet);
+        copy(&sheet, key);
+        damage_sheet(&sheet);
+        compare_marks("damaged sheet", paper, &sheet);
+        damaged++;
+    }
+}
+
+static size_t draw_room(size_t enough)
+{
+    switch (below(6)) {
+    case 0: return below(enough);
+    case 1: return below(SHEET_HEADER + ANSWER + 1);
+    default: return enough;
+    }
+}
+
+static void play_damaged_papers(const struct file *paper, const struct file *key, size_t events)
+{
+    static struct file other, other_key, sheet;
+
+    for (int i = 0; i < DAMAGED_PAPERS; i++) {
+        copy(&other, paper);
+        damage_paper(&other, events);
+        compare_keys("key of a damaged paper", &other, draw_room(key->len), &other_key);
+        compare_marks("damaged paper", &other, key);
+        copy(&sheet, key);
+        damage_sheet(&sheet);
+        compare_marks("damaged paper and sheet", &other, &sheet);
+        damaged += 2;
+    }
+}
+
+static void play_paper(size_t events)
+{
+    static struct file paper, key, none;
+
+    paper.len = generate_paper(theme, events, paper.bytes);
+    observe_paper(paper.bytes);
+    compare_keys("key", &paper, brinefeather_key_length(events), &key);
+    compare_keys("key, more room", &paper, key.len + 1u + below(99), &none);
+    compare_keys("key, one byte short", &paper, key.len - 1, &none);
+    compare_keys("key, short", &paper, below(key.len), &none);
+    compare_keys("key, no room", &paper, 0, &none);
+    play_sheets(&paper, &key, events);
+    play_damaged_papers(&paper, &key, events);
+    papers++;
+    events_played += events;
+}
+
+/* The first paper of each theme has 1,000 events, the second 1; most others have 20 to 400, fewer the likelier. */
+static size_t draw_length(void)
+{
+    if (papers < 2 * GENERATE_THEMES)
+        return papers < GENERATE_THEMES ? MOST : 1;
+    switch (below(20)) {
+    case 0: return 1u + below(20);
+    case 1: return 400u + below(MOST - 399);
+    default: return 20u + below(1u + below(381));
+    }
+}
+
+/* Returns how many of the files' refusals were not reached. */
+static unsigned print_refusals(void)
+{
+    static const char *const name[] = {"badpaper", "blank", "badsheet", "noroom"};
+    unsigned missed = 0;
+
+    for (size_t i = 0; i < COUNT(name); i++) {
+        uint64_t n = refusals[R_BADPAPER + i];
+
+        printf("%10" PRIu64 "  refusal %zu %s%s\n", n, R_BADPAPER + i, name[i], n ? "" : "   NOT REACHED");
+        missed += n == 0;
+    }
+    return missed;
+}
+
+int main(int argc, char **argv)
+{
+    unsigned long wanted = argc == 3 ? strtoul(argv[1], NULL, 10) : 0;
+    unsigned missed;
+
+    if (wanted == 0) {
+        fprintf(stderr, "usage: compare PAPERS SEED\n");
+        return 2;
+    }
+    generate_seed(strtoull(argv[2], NULL, 10));
+    while (papers < wanted) {
+        theme = (enum generate_theme)(papers % GENERATE_THEMES);
+        play_paper(draw_length());
+    }
+    missed = observe_print();
+    missed += print_refusals();
+    printf("compare: %" PRIu64 " papers, %" PRIu64 " events, %" PRIu64 " damaged files, %" PRIu64 " different, "
+           "%u not reached\n", papers, events_played, damaged, different, missed);
+    return different != 0 || missed != 0;
+}

@@ -1,0 +1,24 @@
+/* Marks a blank sheet of a small paper, then its key: prints "0 of 2 right" and "2 of 2 right". */
+#include <stdio.h>
+#include <brinefeather.h>
+
+static void print_mark(const uint8_t *paper, size_t paper_len,
+                       const uint8_t *sheet, size_t sheet_len)
+{
+    uint64_t n = brinefeather_mark(paper, paper_len, sheet, sheet_len);
+    if (brinefeather_refused(n)) printf("refused %u\n", brinefeather_refused(n));
+    else printf("%u of %u right\n", brinefeather_right(n), brinefeather_total(n));
+}
+
+int main(void)
+{
+    static const uint8_t paper[52] = {0, 1, 0, 2, 0, 12, 0, 0, 0, 52, 0, 52, /* two events: */
+                                      [12] = 1, 0x3A, 0, 1, [32] = 2}; /* getproc by 1, a tick */
+    static const uint8_t blank[6] = {0, 1, 0, 0, 0, 6};
+    static uint8_t key[BRINEFEATHER_LONGEST_KEY];
+    uint64_t length = brinefeather_key(paper, sizeof paper, key, sizeof key);
+
+    print_mark(paper, sizeof paper, blank, sizeof blank);
+    if (!brinefeather_refused(length)) print_mark(paper, sizeof paper, key, (size_t)length);
+    return 0;
+}

@@ -1,0 +1,62 @@
+# shellcheck shell=bash disable=SC2034 # to be sourced by bash, from the repository's root: who sources it uses the names
+# What the scripts share. The archive and the programs mark and key are for x86-64, whatever the machine is.
+#
+#   kit         the folder of the Rattle kit
+#   machine     x86_64, aarch64 ..
+#   cc          the compiler for C programs that link the archive; `need $cc $cc_packages` installs it
+#   link        what it wants besides, when it links
+#   run         words to put before a C program that links the archive, to run it
+#   load        words to put before mark or key, to run it
+#   own_cc      the compiler for C programs that do not link the archive: they are for this machine
+#   strict      how the project's C is compiled
+command -v rt > /dev/null || { echo "The Rattle kit is missing: its command rt is not on the path." >&2; exit 1; }
+kit=$(dirname "$(dirname "$(readlink -f "$(command -v rt)")")")
+machine=$(uname -m)
+own_cc=gcc own_cc_packages="gcc libc6-dev"
+if [ "$machine" = x86_64 ]; then
+    cc=$own_cc cc_packages=$own_cc_packages link="" run="" load=""
+else
+    cc=x86_64-linux-gnu-gcc cc_packages="gcc-x86-64-linux-gnu libc6-dev-amd64-cross" link=-static
+    run=$kit/on/$machine/toolchain/bin/qemu-x86_64
+    load="$run $kit/toolchain/lib/ld-linux-x86-64.so.2 --library-path $kit/toolchain/lib"
+fi
+strict="-std=c11 -O2 -Wall -Wextra -pedantic -Wconversion -Werror"
+
+# need COMMAND PACKAGE..: installs the packages if the command is missing.
+need() {
+    local command=$1 root=""
+    shift
+    if command -v "$command" > /dev/null; then return; fi
+    echo "$command is missing: installing $*" >&2
+    [ "$(id -u)" = 0 ] || root=sudo
+    [ "${lists_are_new:-}" ] || { $root apt-get update -qq && lists_are_new=yes; }
+    DEBIAN_FRONTEND=noninteractive $root apt-get install -y -qq "$@" > /dev/null
+}
+
+# quietly WORD..: runs a command and shows what it said only if it failed.
+quietly() {
+    local said
+    said=$("$@" 2>&1) || { tail -n 20 <<< "$said" >&2; return 1; }
+}
+
+# progress: of what rt says, shows each crate as it is proved, and every five seconds that it is still at work.
+progress() {
+    local line begun=$SECONDS
+    while true; do
+        if IFS= read -r -t 5 line; then
+            [[ $line != "rt: "*" proved "* ]] || printf '%5d s  %s\n' $((SECONDS - begun)) "${line#rt: }"
+        elif [ $? -gt 128 ]; then
+            printf '%5d s  ..\n' $((SECONDS - begun))
+        else
+            break
+        fi
+    done
+}
+
+# prove WORD..: runs rt with these words and shows its progress, and if it fails the end of what it said.
+prove() {
+    local log
+    log=$(mktemp)
+    (set -o pipefail; rt "$@" 2>&1 | tee "$log" | progress) || { tail -n 20 "$log" >&2; rm "$log"; return 1; }
+    rm "$log"
+}
