@@ -9,9 +9,9 @@ use lib.ListN.{length, getD, take, set}
 use lib.Seq.{take-suc, length-take-le}
 use borrow.Author.Tests.{leb-true}
 use Rattle.locks.specs.Lists.{padded}
-use Rattle.locks.specs.Rows.{laidRows, rowsOf}
+use Rattle.locks.specs.Rows.{laidRows}
 use Rattle.locks.proofs.Loops.{padded-more}
-use Rattle.rules.specs.State.{Machine, view, laid, lives, processOf, sleeps}
+use Rattle.rules.specs.State.{Machine, view, laid, lives, processOf}
 use Rattle.rules.specs.Outcome.{Outcome, refused, answered, when, either}
 use Rattle.rules.specs.Sound.{sound}
 use Rattle.rules.specs.Step.{settled, stepOf}

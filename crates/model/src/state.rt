@@ -4,19 +4,33 @@ use locks::rows::*;
 use processes::*;
 use rules::state::*;
 ghost use mathlib.Core.Path.{_≡_};
+ghost use mathlib.Core.List.{[], _∷_};
 ghost use lib.ListN.{take};
 ghost use Prim.Native.Nat.{_≤_};
 ghost use Rattle.locks.specs.Rows.{rowsOf};
-ghost use Rattle.locks.specs.Lists.{mask};
-ghost use Rattle.rules.specs.State.{view, laid, fresh, processOf, put, granted, rowsLeft};
+ghost use Rattle.locks.specs.Lists.{padded, mask};
+ghost use Rattle.rules.specs.State.{noProcess, view, laid, fresh, processOf, put, granted, rowsLeft};
 ghost use Rattle.model.specs.Laid.{Lays, Tidy, placeOf, wakesBy, masked};
+
+// p in the first place, nobody in the others.
+fn alone(p: Process) -> [Process; 16]
+    ensures { λ ps. ⌜ ps ≡ padded 16 noProcess (p ∷ []) ⌝ }
+{
+    let z = no_process();
+    let mut procs = [p; 16];
+    let mut i: usize = 1;
+    while i < 16 {
+        procs[i] = z;
+        i += 1;
+    }
+    procs
+}
 
 pub fn fresh() -> State
     ensures { λ r. ⌜ r ≡ laid fresh ⌝ }
 {
     let z = no_process();
-    let mut procs = [z; 16];
-    procs[0] = new_process(1, z.user, z.group, 0, [1, 1, 0, 1, 1, 1, 1]);
+    let procs = alone(new_process(1, z.user, z.group, 0, [1, 1, 0, 1, 1, 1, 1]));
     State {
         procs: procs,
         live: 1,

@@ -9,7 +9,7 @@ use mathlib.Core.Path.{_≡_, refl, sym, _∙_}
 use mathlib.Core.List.{[], _∷_, _++_}
 use lib.ListN.{length, set, take, length-set}
 use lib.Seq.{take-suc-set}
-use Rattle.papers.specs.Events.{eventAt, eventsFrom}
+use Rattle.papers.specs.Events.{eventsFrom}
 use Rattle.marker.proofs.Turns.{events-end}
 
 abbrev Inv-loop : tie.InvT-loop

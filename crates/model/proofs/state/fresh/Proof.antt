@@ -12,15 +12,15 @@ no-process-requires c κs = search needs
 new-process-requires : tie.Need-new-process-requires
 new-process-requires c κs = search needs
 
-array-set-from-procs : tie.Need-array-set-from-procs
-array-set-from-procs c = search needs
+alone-requires : tie.Need-alone-requires
+alone-requires c κs = search needs
 
 no-rows-requires : tie.Need-no-rows-requires
 no-rows-requires c κs = search needs
 
 returns : tie.Need-returns
 unfolding fresh laid newProcess noProcess laidRows padded
-returns c = simp (c .no-rows .ensures, c .before .new-process .ensures, c .before .before .no-process .ensures)
+returns c = simp (c .no-rows .ensures, c .before .alone .ensures, c .before .before .new-process .ensures, c .before .before .before .no-process .ensures)
 
 pub fresh-spec : {M : Type 1} → statement M
 fresh-spec =
@@ -28,6 +28,6 @@ fresh-spec =
     (tie.spec
     no-process-requires
     new-process-requires
-    array-set-from-procs
+    alone-requires
     no-rows-requires
     returns)
