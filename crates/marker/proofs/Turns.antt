@@ -12,14 +12,13 @@ use Rattle.rules.specs.declared.state.State.{State}
 use Rattle.rules.specs.declared.state.Event.{Event}
 use Rattle.rules.specs.declared.state.Answer.{Answer}
 use Rattle.rules.proofs.Plays.{answers-count}
-use Rattle.model.specs.Course.{noAnswer}
 use Rattle.locks.specs.Lists.{padded, agree}
 use Rattle.papers.specs.Bytes.{run}
 use Rattle.papers.specs.Events.{eventAt, eventsFrom}
 use Rattle.papers.specs.Answers.{answerBytes, placesFrom}
 use Rattle.marker.specs.Key.{joined}
 use Rattle.marker.specs.Mark.{rightPlaces}
-use Rattle.rules.specs.Play.{answersFrom, stateFrom}
+use Rattle.rules.specs.Play.{answersFrom, noAnswer, stateFrom}
 
 -- the places of the n - i events from the one at hand on
 abbrev pub left : State → List ℕ → ℕ → ℕ → List (List ℕ)

@@ -62,7 +62,7 @@ fn put_answers(mut s: State, p: &[u8], n: u16, out: &mut [u8])
     let mut i: u16 = 0;
     let mut at: usize = 0;
     while i < n {
-        let m = few(n - i);
+        let m = lesser(n - i, 16);
         let es = events(p, i, m);
         let r = play(s, es, m as usize);
         let answers = r.answers;

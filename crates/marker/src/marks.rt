@@ -32,12 +32,6 @@ pub enum Marked {
     Refused(u8),
 }
 
-fn lesser(a: u16, b: u16) -> u16
-    ensures { λ r. ⌜ r ≡ min a b ⌝ }
-{
-    if a < b { a } else { b }
-}
-
 // What a is above b, if it is.
 fn above(a: u16, b: u16) -> u16
     ensures { λ r. ⌜ r ≡ a - b ⌝ }
@@ -45,7 +39,7 @@ fn above(a: u16, b: u16) -> u16
     if a < b { 0 } else { a - b }
 }
 
-// In how many of the sheet's m places from place i on the answer stands.
+// How many of the first m answers stand in the sheet's places from place i on.
 fn right_few(answers: [Answer; 16], sheet: &[u8], i: u16, m: u16) -> u16
     requires { ⌜ (m ≤ 16) × (i + m ≤ 65535) ⌝ }
     ensures { λ r. ⌜ r ≡ rightPlaces (map answerBytes (take m answers)) (placesFrom (now (sheet .entry)) (6 + 16 * i) m) ⌝ }
@@ -70,7 +64,7 @@ fn right_places(mut s: State, p: &[u8], sheet: &[u8], n: u16) -> u16
     let mut right: u16 = 0;
     let mut i: u16 = 0;
     while i < n {
-        let m = few(n - i);
+        let m = lesser(n - i, 16);
         let es = events(p, i, m);
         let r = play(s, es, m as usize);
         let answers = r.answers;

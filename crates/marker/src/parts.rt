@@ -6,11 +6,10 @@ ghost use Prim.Native.Nat.{_+_, _*_, _≤_, _<_, min};
 ghost use lib.ListN.{take};
 ghost use Rattle.papers.specs.Events.{eventsFrom};
 
-// As many of n as make a part.
-pub(crate) fn few(n: u16) -> u16
-    ensures { λ r. ⌜ r ≡ min n 16 ⌝ }
+pub(crate) fn lesser(a: u16, b: u16) -> u16
+    ensures { λ r. ⌜ r ≡ min a b ⌝ }
 {
-    if n < 16 { n } else { 16 }
+    if a < b { a } else { b }
 }
 
 // The m events of the paper from event i on.

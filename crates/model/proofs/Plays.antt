@@ -15,7 +15,7 @@ use Rattle.rules.specs.State.{Machine, view, laid, lives, processOf}
 use Rattle.rules.specs.Outcome.{Outcome, refused, answered, when, either}
 use Rattle.rules.specs.Sound.{sound}
 use Rattle.rules.specs.Step.{settled, stepOf}
-use Rattle.rules.specs.Play.{answersFrom, stateFrom}
+use Rattle.rules.specs.Play.{answersFrom, noAnswer, stateFrom}
 use Rattle.rules.specs.declared.state.Process.{Process}
 use Rattle.rules.specs.declared.state.State.{State}
 use Rattle.rules.specs.declared.state.Event.{Event}
@@ -24,7 +24,7 @@ use Rattle.rules.specs.declared.state.Stepped.{Stepped}
 use Rattle.rules.proofs.Plays.{answers-more, state-more, answers-count}
 use Rattle.model.specs.declared.event.Course.{Course}
 use Rattle.model.specs.Laid.{Lays, Caller}
-use Rattle.model.specs.Course.{noAnswer, follows, acts, OfEvent}
+use Rattle.model.specs.Course.{follows, acts, OfEvent}
 use Rattle.model.proofs.Laying.{lays-own, Seeking, seek, sought-among, unsought-among}
 use Rattle.model.proofs.Events.{sound-machine, advanced, lives-here, lives-not, process-here, caller-here}
 

@@ -10,19 +10,13 @@ use Rattle.rules.specs.Step.{reported, outcome, settled}
 use Rattle.rules.specs.declared.state.Process.{Process}
 use Rattle.rules.specs.declared.state.State.{State}
 use Rattle.rules.specs.declared.state.Event.{Event}
-use Rattle.rules.specs.declared.state.Answer.{Answer}
 use Rattle.rules.specs.declared.state.Stepped.{Stepped}
 use Rattle.rules.specs.declared.calls.Call.{Call}
-use Rattle.processes.specs.Told.{answerOf}
 use Rattle.model.specs.declared.event.OwnTurn.{OwnTurn}
 use Rattle.model.specs.declared.event.OwnTurn.the-variants as turn
 use Rattle.model.specs.declared.event.Course.{Course}
 use Rattle.model.specs.declared.event.Course.the-variants as course
 use Rattle.model.specs.Laid.{refusedBy}
-
--- in the places of answers that are not used
-abbrev pub noAnswer : Answer
-noAnswer = answerOf 0 0 0 0
 
 unfoldable pub ownTurn : OwnTurn → Process → Event → Outcome Process
 ownTurn (turn.Call c) p e = ownCall c p e
@@ -48,7 +42,7 @@ OfCall c x = (s : State) (p : Process) (e : Event) → follows s p e x ≡ settl
 abbrev pub OfNumber : Event → Course → Type 0
 OfNumber e x = (s : State) (p : Process) → follows s p e x ≡ settled s (called p e (view s))
 
--- a process that is awake calls
+-- whether the caller itself acts, and so must live and be awake
 unfoldable pub acts : Course → Bool
 acts (course.Refused n) = false
 acts (course.Own c) = true
@@ -61,7 +55,9 @@ acts course.Exit = true
 
 -- the course of an event, where p is the caller or, if the caller does not live, another
 pub record OfEvent (p : Process) (e : Event) (x : Course) : Type 0 where
+  -- where the caller acts, p is the caller and awake
   pub caller : acts x ≡ true → (p .pid ≡ e .caller) × (sleeps p ≡ false)
+  -- the course comes to what the rules say of the event
   pub is : (s : State) → ((p .pid ≡ e .caller → ⊥) → lives (view s) (e .caller) ≡ false)
       → (p .pid ≡ e .caller → (lives (view s) (e .caller) ≡ true) × (p ≡ processOf (view s) (e .caller)))
       → follows s p e x ≡ settled s (outcome e (view s))

@@ -66,7 +66,7 @@ fn course_of_call(e: Event) -> Course
     }
 }
 
-// The process p is the caller's, if it has its PID.
+// p is the caller, or any other process if none has the caller's PID.
 pub(crate) fn course_of(p: Process, e: Event) -> Course
     ensures { λ x. ⌜ OfEvent p e x ⌝ }
 {

@@ -13,8 +13,7 @@ ghost use lib.ListN.{take};
 ghost use Rattle.locks.specs.Lists.{padded};
 ghost use Rattle.rules.specs.Sound.{sound};
 ghost use Rattle.rules.specs.Step.{stepOf};
-ghost use Rattle.rules.specs.Play.{answersFrom, stateFrom};
-ghost use Rattle.model.specs.Course.{noAnswer};
+ghost use Rattle.rules.specs.Play.{answersFrom, noAnswer, stateFrom};
 
 const BADSTATE: u8 = 1;
 
@@ -102,6 +101,7 @@ pub fn play(mut s: State, es: [Event; 16], n: usize) -> Played
     }
 }
 
+// One event in a sound state.
 pub fn advance(s: State, e: Event) -> Stepped
     requires { ⌜ sound s ≡ true ⌝ }
     ensures { λ r. ⌜ (r ≡ stepOf s e) × (sound (r .state) ≡ true) ⌝ }
@@ -117,6 +117,7 @@ pub fn advance(s: State, e: Event) -> Stepped
     }
 }
 
+// One event in any state.
 pub fn step(s: State, e: Event) -> Stepped
     ensures { λ r. ⌜ r ≡ stepOf s e ⌝ }
 {

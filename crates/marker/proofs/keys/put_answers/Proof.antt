@@ -28,11 +28,11 @@ abbrev μ-loop : tie.MeasureT-loop
 loop-holds : tie.Need-loop-holds Inv-loop μ-loop
 loop-holds c = (search needs, search needs, c .before .before .pre .0, refl, refl, refl)
 
-sub-few : tie.Need-sub-few Inv-loop μ-loop
-sub-few c = search needs
+sub-lesser : tie.Need-sub-lesser Inv-loop μ-loop
+sub-lesser c = search needs
 
-few-requires : tie.Need-few-requires Inv-loop μ-loop
-few-requires c κs = search needs
+lesser-requires : tie.Need-lesser-requires Inv-loop μ-loop
+lesser-requires c κs = search needs
 
 events-requires : tie.Need-events-requires Inv-loop μ-loop
 events-requires c κs = search needs
@@ -76,8 +76,8 @@ loop-again c =
     let l = c .before .before .before .before .before .before .before .before .before .before .loop in
     let r = c .before .before .before .before .before .before .play in
     let put = c .before .before .before .put-few in
-    let m = c .before .before .before .before .before .before .before .before .few .result in
-    let q = c .before .before .before .before .before .before .before .before .few .ensures in
+    let m = c .before .before .before .before .before .before .before .before .lesser .result in
+    let q = c .before .before .before .before .before .before .before .before .lesser .ensures in
     let t = c .before .before .before .before .before .before .before .before .before .loop-test .taken in
     let w = played (l .s) (o .args .p .now) (l .i) m (c .before .before .before .before .before .before .before .events .result) (r .result .answers) (r .result .state) (c .before .before .before .before .before .before .before .events .ensures) (r .ensures .0) (r .ensures .1) in
     let e = joined (map answerBytes (take m (r .result .answers))) in
@@ -114,8 +114,8 @@ put-answers-spec =
     Inv-loop
     μ-loop
     loop-holds
-    sub-few
-    few-requires
+    sub-lesser
+    lesser-requires
     events-requires
     cast-play
     play-requires

@@ -9,7 +9,7 @@ use mathlib.Core.Path.{_≡_, refl, sym, _∙_, ap}
 use mathlib.Core.List.{[], _∷_, _++_, map, map-append, append-nil}
 use lib.ListN.{length, getD, take, drop, take-append-drop}
 use lib.Seq.{take-suc, drop-drop}
-use Rattle.model.specs.Course.{noAnswer}
+use Rattle.rules.specs.Play.{noAnswer}
 use Rattle.papers.specs.Answers.{answerBytes}
 use Rattle.papers.proofs.Sheets.{answer-long}
 use Rattle.marker.specs.Key.{joined}

@@ -12,7 +12,7 @@ use mathlib.Core.Logic.{⊎-elim}
 use mathlib.Core.List.{[], _∷_, _++_, map, map-append}
 use lib.ListN.{length, getD, take, length-map}
 use lib.Seq.{take-suc, length-take-le}
-use Rattle.model.specs.Course.{noAnswer}
+use Rattle.rules.specs.Play.{noAnswer}
 use Rattle.papers.specs.Answers.{answerBytes, placesFrom}
 use Rattle.marker.specs.Mark.{rightPlaces}
 use Rattle.marker.proofs.Turns.{places-end, places-count, right-both}

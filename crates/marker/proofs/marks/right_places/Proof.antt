@@ -26,13 +26,13 @@ abbrev μ-loop : tie.MeasureT-loop
 μ-loop s₀ p sheet n right₀ i₀ s right i = n - i
 
 -- a part has no more places right than it has
-most : (c : tie.After-right-few Inv-loop μ-loop) → c .right-few .result ≤ c .before .before .before .before .few .result
+most : (c : tie.After-right-few Inv-loop μ-loop) → c .right-few .result ≤ c .before .before .before .before .lesser .result
 most c =
     let o = c .before .before .before .before .before .before .before .before .before in
-    let x = map answerBytes (take (c .before .before .before .before .few .result) (c .before .before .play .result .answers)) in
-    let y = placesFrom (o .args .sheet .now) (6 + 16 * c .before .before .before .before .before .before .loop .i) (c .before .before .before .before .few .result) in
+    let x = map answerBytes (take (c .before .before .before .before .lesser .result) (c .before .before .play .result .answers)) in
+    let y = placesFrom (o .args .sheet .now) (6 + 16 * c .before .before .before .before .before .before .loop .i) (c .before .before .before .before .lesser .result) in
     let k = right-most x y in
-    let n : length y ≡ c .before .before .before .before .few .result = places-count (o .args .sheet .now) (6 + 16 * c .before .before .before .before .before .before .loop .i) (c .before .before .before .before .few .result) in
+    let n : length y ≡ c .before .before .before .before .lesser .result = places-count (o .args .sheet .now) (6 + 16 * c .before .before .before .before .before .before .loop .i) (c .before .before .before .before .lesser .result) in
     omega (arith, k, n, c .right-few .ensures)
 
 loop-holds : tie.Need-loop-holds Inv-loop μ-loop
@@ -40,11 +40,11 @@ loop-holds c =
     let z : c .before .before .args .n - 0 ≡ c .before .before .args .n = omega arith in
     (search needs, search needs, c .before .before .pre, rw (zero-add, z))
 
-sub-few : tie.Need-sub-few Inv-loop μ-loop
-sub-few c = search needs
+sub-lesser : tie.Need-sub-lesser Inv-loop μ-loop
+sub-lesser c = search needs
 
-few-requires : tie.Need-few-requires Inv-loop μ-loop
-few-requires c κs = search needs
+lesser-requires : tie.Need-lesser-requires Inv-loop μ-loop
+lesser-requires c κs = search needs
 
 events-requires : tie.Need-events-requires Inv-loop μ-loop
 events-requires c κs = search needs
@@ -59,7 +59,7 @@ right-few-requires : tie.Need-right-few-requires Inv-loop μ-loop
 right-few-requires c κs = search needs
 
 add-right : tie.Need-add-right Inv-loop μ-loop
-add-right c = let b = most c in let t = c .before .before .before .before .before .loop-test .taken in omega (arith, b, c .before .before .before .before .before .before .loop .inv .1, c .before .before .before .before .few .ensures, t)
+add-right c = let b = most c in let t = c .before .before .before .before .before .loop-test .taken in omega (arith, b, c .before .before .before .before .before .before .loop .inv .1, c .before .before .before .before .lesser .ensures, t)
 
 add-i : tie.Need-add-i Inv-loop μ-loop
 add-i c = search needs
@@ -72,13 +72,13 @@ loop-again c =
     let o = c .before .before .before .before .before .before .before .before .before .before in
     let l = c .before .before .before .before .before .before .before .loop in
     let r = c .before .before .before .play in
-    let m = c .before .before .before .before .before .few .result in
+    let m = c .before .before .before .before .before .lesser .result in
     let p = o .args .p .now in
     let s = o .args .sheet .now in
     let n = o .args .n in
     let t = c .before .before .before .before .before .before .loop-test .taken in
     let w = played (l .s) p (l .i) m (c .before .before .before .before .events .result) (r .result .answers) (r .result .state) (c .before .before .before .before .events .ensures) (r .ensures .0) (r .ensures .1) in
-    let g : l .i + m ≤ n = omega (arith, c .before .before .before .before .before .few .ensures, t) in
+    let g : l .i + m ≤ n = omega (arith, c .before .before .before .before .before .lesser .ensures, t) in
     let k = answers-count (l .s) p (12 + 20 * l .i) m ∙ sym (places-count s (6 + 16 * l .i) m) in
     let f : rightPlaces (left (l .s) p n (l .i)) (placesFrom s (6 + 16 * l .i) (n - l .i)) ≡ c .before .right-few .result + rightPlaces (left (r .result .state) p n (l .i + m)) (placesFrom s (6 + 16 * (l .i + m)) (n - (l .i + m))) =
     rw (left-more (l .s) p n (l .i) m g, sheet-more s n (l .i) m g, c .before .right-few .ensures, w .0, w .1) (right-both (map answerBytes (answersFrom (l .s) (eventsFrom p (12 + 20 * l .i) m))) (left (stateFrom (l .s) (eventsFrom p (12 + 20 * l .i) m)) p n (l .i + m)) (placesFrom s (6 + 16 * l .i) m) (placesFrom s (6 + 16 * (l .i + m)) (n - (l .i + m))) k) in
@@ -105,8 +105,8 @@ right-places-spec =
     Inv-loop
     μ-loop
     loop-holds
-    sub-few
-    few-requires
+    sub-lesser
+    lesser-requires
     events-requires
     cast-play
     play-requires

@@ -5,7 +5,7 @@ use mathlib.Core.List.{List}
 use lib.ListN.{getD}
 use Rattle.locks.specs.Lists.{padded}
 use Rattle.rules.specs.declared.state.Answer.{Answer}
-use Rattle.model.specs.Course.{noAnswer}
+use Rattle.rules.specs.Play.{noAnswer}
 use Rattle.model.proofs.turns.advance.Statement.{statement}
 use Rattle.model.proofs.turns.advance.Tie as tie
 

@@ -16,14 +16,14 @@ use Rattle.locks.specs.Lists.{padded}
 use Rattle.rules.specs.State.{view}
 use Rattle.rules.specs.Sound.{sound}
 use Rattle.rules.specs.Step.{stepOf}
-use Rattle.rules.specs.Play.{answersFrom, stateFrom}
+use Rattle.rules.specs.Play.{answersFrom, noAnswer, stateFrom}
 use Rattle.rules.specs.declared.state.Process.{Process}
 use Rattle.rules.specs.declared.state.State.{State}
 use Rattle.rules.specs.declared.state.Event.{Event}
 use Rattle.rules.specs.declared.state.Stepped.{Stepped}
 use Rattle.model.specs.declared.event.Course.{Course}
 use Rattle.model.specs.Laid.{Lays, Caller}
-use Rattle.model.specs.Course.{noAnswer, ownTurn, follows, acts, OfEvent}
+use Rattle.model.specs.Course.{ownTurn, follows, acts, OfEvent}
 use Rattle.model.proofs.Places.{getD-any}
 use Rattle.model.proofs.Laying.{lays-fits, Seeking, seeking, seek}
 use Rattle.model.proofs.Kept.{keeps, turn-pids}
