@@ -2,7 +2,9 @@
 SHELL := bash
 .PHONY: demo test install bench clean
 
-# Marks the sample sheets; PAPER=file and SHEET=file mark your own.
+# Marks the sample sheets; PAPER=file and SHEET=file mark your own. Only what stands on make's command line counts: such
+# a name may be in the environment for something else.
+$(foreach name,PAPER SHEET KEY,$(if $(filter command,$(origin $(name))),,$(eval unexport $(name))))
 demo:
 	@examples/demo.sh
 

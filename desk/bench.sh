@@ -22,7 +22,10 @@ done
 need "$cc" $cc_packages
 archive=${ARCHIVE:-target/staticlib/libmarker.a}
 made="a given one, \`$archive\`"
-[ -n "${ARCHIVE:-}" ] || { quietly rt staticlib marker && made="made by \`rt staticlib marker\`"; }
+if [ -z "${ARCHIVE:-}" ]; then
+    quietly rt staticlib marker
+    made="made by \`rt staticlib marker\`"
+fi
 work=$(mktemp -d)
 trap 'rm -rf "$work"' EXIT
 $cc $strict -pthread $link -o "$work/bench" desk/bench.c desk/generate.c desk/plain.c "$archive"

@@ -199,11 +199,11 @@ static void show(const char *what, const uint8_t *bytes, size_t len)
 }
 
 /* The event and its two answers, if the byte is of an answer. */
-static void show_event(const struct file *paper, const uint8_t *ours, const uint8_t *plains, size_t at)
+static void show_event(const struct file *paper, const uint8_t *ours, const uint8_t *plains, size_t size, size_t at)
 {
     const size_t start = GUARD + SHEET_HEADER, event = at < start ? MOST : (at - start) / ANSWER;
 
-    if (event >= event_count(paper) || different > 20)
+    if (event >= event_count(paper) || start + ANSWER * (event + 1) > size || different > 20)
         return;
     show("event ", paper->bytes + PAPER_HEADER + EVENT * event, EVENT);
     show("answer", ours + start + ANSWER * event, ANSWER);
@@ -222,7 +222,7 @@ static void compare_bytes(const char *what, const struct file *paper, const uint
         return;
     snprintf(place, sizeof place, "%s, byte %zu of guard %d and buffer", what, i, GUARD);
     differ(place, ours[i], plains[i]);
-    show_event(paper, ours, plains, i);
+    show_event(paper, ours, plains, size, i);
 }
 
 static void see_key(uint64_t length, size_t room)

@@ -22,8 +22,10 @@ struct sums {
 
 static size_t unreadable(const char *name)
 {
+    const int why = errno;
+
     fflush(stdout);
-    fprintf(stderr, "desk: %s: %s (it counts as empty)\n", name, strerror(errno));
+    fprintf(stderr, "desk: %s: %s (it counts as empty)\n", name, strerror(why));
     return 0;
 }
 
@@ -123,8 +125,9 @@ int main(int argc, char **argv)
         return WRONG_USAGE;
     }
     status = run_desk(argv[1], argv + 2);
+    errno = 0; /* it stays 0 if an earlier write failed and this one does not */
     if (fflush(stdout) == 0 && !ferror(stdout))
         return status;
-    fprintf(stderr, "desk: not all could be printed: %s\n", strerror(errno));
+    fprintf(stderr, "desk: not all could be printed%s%s\n", errno ? ": " : "", errno ? strerror(errno) : "");
     return NOT_PRINTED;
 }

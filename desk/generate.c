@@ -95,8 +95,8 @@ static uint16_t edge16(void)
 
 static uint32_t edge32(void)
 {
-    static const uint32_t edges[] = {0, 1, 2, 3, 16, 17, 40, 41, 255, 256, 65535, 65536, 65537, 0x7FFFFFFF, 0x80000000,
-                                     0xFFFFFFD7, 0xFFFFFFD8, 0xFFFFFFFE, 0xFFFFFFFF};
+    static const uint32_t edges[] = {0, 1, 2, 3, 16, 17, 40, 41, 255, 256, 65535, 65536, 65537, 65538, 0x7FFFFFFF,
+                                     0x80000000, 0xFFFFFFD7, 0xFFFFFFD8, 0xFFFFFFFE, 0xFFFFFFFF};
 
     return one_in(4) ? (uint32_t)draw() : ONE_OF(edges);
 }
@@ -1198,12 +1198,13 @@ static void edge_limit(uint16_t caller)
     play_edge(&ev, number);
 }
 
+static const uint8_t modelled[] = {GETUSER, SETUSER, GETGROUP, SETGROUP, GETPRIOR, SETPRIOR, GETPROC, LOCK, LOCK, LOCK,
+                                   UNLOCK, UNLOCK, SIGNAL, KILL, SLEEP, ALARM, PAUSE, EXIT, FSHELL};
+
 /* One register holds anything, or the sequence is another or none. */
 static void edge_any(uint16_t caller)
 {
-    static const uint8_t calls[] = {GETUSER, SETUSER, GETGROUP, SETGROUP, GETPRIOR, SETPRIOR, GETPROC, LOCK, LOCK, LOCK,
-                                    UNLOCK, UNLOCK, SIGNAL, KILL, SLEEP, ALARM, PAUSE, EXIT, FSHELL};
-    uint8_t call = ONE_OF(calls);
+    uint8_t call = ONE_OF(modelled);
     struct event ev;
     uint16_t number, reg = between(D1, A0);
 
@@ -1251,6 +1252,19 @@ static void edge_number(uint16_t caller)
     play_edge(&ev, below(sequence_count + 1));
 }
 
+/* By indirect, an unlisted number whose low byte is that of a modelled call, or of another. */
+static void edge_beyond(uint16_t caller)
+{
+    uint8_t call = one_in(2) ? ONE_OF(modelled) : (uint8_t)below(INDIRECT);
+    struct event ev;
+    uint16_t number;
+
+    start_call(&ev, caller, INDIRECT);
+    number = draw_arguments(&ev, call);
+    ev.d0 = (uint16_t)(0x100 + call);
+    play_edge(&ev, number);
+}
+
 /* All kinds in turn, and any call number, of anyone: some sleep, and some are no one. */
 static void edge_caller(void)
 {
@@ -1279,6 +1293,8 @@ static void go_to_edges(void)
         edge_caller();
     else if (one_in(4))
         edge_number(caller);
+    else if (one_in(20))
+        edge_beyond(caller);
     else
         one_in(2) ? edge_limit(caller) : edge_any(caller);
     if (one_in(50))

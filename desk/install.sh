@@ -3,6 +3,9 @@
 # shellcheck disable=SC2086,SC2154 # the words of $strict and $link are meant to be split; tools.sh gives them
 set -eu
 prefix=$(realpath -m "${PREFIX:-/usr/local}")
+case $prefix in
+*[\&\|\\[:space:]]*) echo "PREFIX must not have a space, an &, a | or a \\ in it: $prefix" >&2; exit 2 ;;
+esac
 to=${DESTDIR:+$(realpath -m "$DESTDIR")}$prefix
 cd "$(dirname "$0")/.."
 # shellcheck source=desk/tools.sh

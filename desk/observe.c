@@ -53,7 +53,7 @@ static struct {
     {UNLOCK, D3, 1, 0, 0, 0}, {UNLOCK, D3, 16, 17, 0, 0},
     {SIGNAL, D2, 1, 0, 0, 0}, {SIGNAL, D2, 2, 3, 0, 0}, {SIGNAL, D2, 4, 3, 0, 0}, {SIGNAL, D2, 7, 8, 0, 0},
     {KILL, D2, 1, 0, 0, 0}, {KILL, D2, 7, 8, 0, 0}, {KILL, D3, 2, 1, 0, 0}, {KILL, D3, 65535, 65536, 0, 0},
-    {FSHELL, D1, 255, 256, 0, 0}, {FSHELL, D2, 255, 256, 0, 0}};
+    {KILL, D3, 2, 65538, 0, 0}, {FSHELL, D1, 255, 256, 0, 0}, {FSHELL, D2, 255, 256, 0, 0}};
 
 void observe_saw(enum observe_situation situation)
 {
@@ -303,10 +303,33 @@ static int unprivileged(void)
     return now.caller->user[0] != 0;
 }
 
+/* By indirect, a number above 255. */
+static void see_beyond(void)
+{
+    struct event ev = now.ev;
+    struct answer an;
+
+    ev.d0 &= 255;
+    an = would(&now.before, &ev);
+    SAW(BEYOND_CALL, now.an.number == R_BADCALL && an.kind != REFUSED);
+    SAW(BEYOND_LISTED, now.an.number == R_BADCALL && an.number == R_NOTMODELLED);
+}
+
+/* A kill of a PID above 65,535. */
+static void see_beyond_pid(void)
+{
+    struct event ev = now.ev;
+
+    ev.d3 &= 65535;
+    SAW(BEYOND_PID, now.an.number == R_BADCALL && would(&now.before, &ev).kind != REFUSED);
+}
+
 static void see_kill(void)
 {
     const struct process *to = find(&now.before, now.ev.d3);
 
+    if (now.ev.d3 > 65535)
+        see_beyond_pid();
     SAW(PRIV_KILL, now.an.number == R_PRIV);
     SAW(FIRST_NOPROC, now.an.number == R_NOPROC && unprivileged());
     if (now.an.kind == REFUSED)
@@ -346,7 +369,7 @@ static void see_call(void)
     case FSHELL: see_fshell(); break;
     case KILL: see_kill(); break;
     case SETUSER: case SETGROUP: case SETPRIOR: see_set(); break;
-    default: see_other_call(); break;
+    default: now.call > 255 ? see_beyond() : see_other_call(); break;
     }
 }
 

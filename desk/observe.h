@@ -80,6 +80,9 @@
     X(FIRST_CALLER, "badcaller, though the call number is unlisted") \
     X(FIRST_SLEEP, "asleep, though the call number is unlisted") \
     X(FIRST_TRAP, "trap, though the call number is unlisted") \
+    X(BEYOND_CALL, "badcall for an indirect number above 255 whose low byte alone would not be refused") \
+    X(BEYOND_LISTED, "badcall for an indirect number above 255 whose low byte alone would be notmodelled") \
+    X(BEYOND_PID, "badcall for a kill above 65,535 whose low half alone would not be refused") \
     X(FIRST_ARGUMENT, "badcall for an argument, though it would be priv too") \
     X(FIRST_NOPROC, "noproc, though unprivileged") \
     X(EVENTS_1, "a paper of 1 event") \

@@ -1,6 +1,7 @@
 /*
  * Document 01 in plain C, in place: the model of the process, signal and lock calls, and paper, sheet, key and mark
- * over it. Written from the document; plain_mark and plain_key are as the two routines of brinefeather.h.
+ * over it. Written from the document by helpers who had not seen the Rattle code (the one of reader and marker had
+ * seen parts of the design notes). plain_mark and plain_key are as the two routines of brinefeather.h.
  */
 #ifndef PLAIN_H
 #define PLAIN_H

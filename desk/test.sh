@@ -1,7 +1,8 @@
 #!/usr/bin/env bash
 # Tries the archive, the programs, the samples, the demo and the installation from outside, as a user would; part of
 # `make test`, after rt ci. tools.sh says what is used on which machine.
-# shellcheck disable=SC2086,SC2154 # the words of $strict, $link, $run and $load are meant to be split; tools.sh gives them
+# shellcheck disable=SC2016,SC2086,SC2154 # backquotes are meant, and the words of $strict, $link, $run and $load are to be
+# split; tools.sh gives them
 set -eu
 cd "$(dirname "$0")/.."
 # shellcheck source=desk/tools.sh
@@ -45,7 +46,7 @@ plain_model() {
     $own_cc $strict -o "$work/plain-test" desk/plain-test.c desk/plain.c
     last "$work/plain-test"
     linked compare desk/compare.c desk/generate.c desk/observe.c desk/plain.c
-    last $run "$work/compare" 600 1
+    $run "$work/compare" 600 1 || fail "compare 600 1"
 }
 
 # ---- the programs, in a folder of their own: what mark prints, and the bytes of the file that key writes
@@ -173,10 +174,25 @@ desk() {
 samples() {
     local folder
     last desk/transcribe-test.sh
-    last examples/test.sh
+    examples/test.sh "${RULES:-/work/shared/01-scope.md}" || fail "examples/test.sh"
     for folder in examples/*/; do
         (cd "$folder" && $run "$work/desk" paper ./*.sheet) | sed '$d; s|^./||' | cmp -s - "${folder}marks" || fail "desk on $folder"
     done
+}
+
+# ---- the README's paper by hand: its key is the answers of its table
+
+by_hand() {
+    mkdir "$work/by-hand"
+    cd "$work/by-hand"
+    sed -n '/^## A paper by hand$/,/^## /s/^    //p' "$root/README.md" > paper.txt
+    sed -nE '/^## A paper by hand$/,/^## /s/^\| ([0-9]+) \| `([^`]*)` \|.*/\1: \2/p' "$root/README.md" > sheet.txt
+    "$work/transcribe" paper paper.txt paper
+    "$work/transcribe" sheet sheet.txt sheet
+    $load "$root/target/bin/key"
+    cmp key sheet || fail "the README's paper by hand: its answers are not its key"
+    cd "$root"
+    echo "README: a paper by hand, $(wc -l < "$work/by-hand/sheet.txt") answers, 0 wrong"
 }
 
 # ---- the demo: the marks of the samples again, and a user's own files
@@ -214,12 +230,11 @@ demo() {
 
 # ---- the installation: a C program that sees the installed files only, the programs and the manual pages
 
-# The lines of a quotation in a manual page, and in the README, are those of desk/example.c.
+# What a manual page and the README quote is desk/example.c.
 example_is_quoted() {
     sed -n '/^\.EX$/,/^\.EE$/p' desk/man/brinefeather.3 | sed '1d; /^\.EE$/,$d; s/\\e/\\/g' | cmp - desk/example.c \
         || fail "brinefeather(3) quotes another example than desk/example.c"
-    grep -A 2 -F 'brinefeather_mark(paper, paper_len, sheet, sheet_len);' desk/example.c > "$work/lines"
-    grep -A 2 -F 'brinefeather_mark(paper, paper_len, sheet, sheet_len);' README.md | cmp - "$work/lines" \
+    sed -n '/^```c$/,/^```$/p' README.md | sed '1d; $d' | cmp - desk/example.c \
         || fail "the README quotes another example than desk/example.c"
 }
 
@@ -257,9 +272,19 @@ pages_read_well() {
     done
 }
 
+# Such a prefix would spoil the pkg-config file.
+odd_prefix_is_refused() {
+    local odd said
+    for odd in '/a b' '/a&b' '/a|b' '/a\b'; do
+        said=$(PREFIX=$odd DESTDIR=$work/odd desk/install.sh 2>&1) && fail "make install with PREFIX=$odd"
+        [[ $said == "PREFIX must not "*"$odd" ]] || fail "make install with PREFIX=$odd: '$said'"
+    done
+}
+
 installation() {
     local prefix=$work/prefix
     example_is_quoted
+    odd_prefix_is_refused
     quietly make --no-print-directory install PREFIX="$prefix"
     example_compiles "$prefix"
     installed_programs_run "$prefix"
@@ -273,6 +298,7 @@ plain_model
 programs
 desk
 samples
+by_hand
 demo
 installation
 desk/check-c.sh

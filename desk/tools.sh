@@ -22,12 +22,19 @@ else
 fi
 strict="-std=c11 -O2 -Wall -Wextra -pedantic -Wconversion -Werror"
 
-# need COMMAND PACKAGE..: installs the packages if the command is missing.
+# works COMMAND: is it there, and, if it is a C compiler, does it find the headers of the C library?
+works() {
+    command -v "$1" > /dev/null || return 1
+    [[ $1 != *gcc ]] || "$1" -fsyntax-only -x c - <<< '#include <stdio.h>' 2> /dev/null
+}
+
+# need COMMAND PACKAGE..: installs the packages if the command is missing, or its headers are.
 need() {
     local command=$1 root=""
     shift
-    if command -v "$command" > /dev/null; then return; fi
-    echo "$command is missing: installing $*" >&2
+    if works "$command"; then return; fi
+    command -v apt-get > /dev/null || { echo "$command or its headers are missing. Packages wanted: $*" >&2; exit 1; }
+    echo "$command or its headers are missing: installing $*" >&2
     [ "$(id -u)" = 0 ] || root=sudo
     [ "${lists_are_new:-}" ] || { $root apt-get update -qq && lists_are_new=yes; }
     DEBIAN_FRONTEND=noninteractive $root apt-get install -y -qq "$@" > /dev/null

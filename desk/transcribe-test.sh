@@ -95,7 +95,10 @@ writes paper "sequence TABLE\nprocess 2: lock unshared conditional TABLE" \
     "013E0002 0000 0000 0003 00000005 00000000 0001 5441424C45 0000000000000000000000"
 writes paper "sequence 0x00ff\nprocess 2: call 0Fh S=1" \
     "010F0002 00000000 00000000 00000000 0000 0001 00FF 0000000000000000000000000000"
+writes paper "\xEF\xBB\xBFtick\ntick" "02000000 $zeros 02000000 $zeros" # a byte order mark
 writes sheet "" ""
+writes sheet "\xEF\xBB\xBF" ""
+writes sheet "\xEF\xBB\xBF1: done" "$zeros"
 writes sheet "done" "$zeros"
 writes sheet "asleep\nended ended=1\n" "01000000 000000000000000000000000 02000000 000200000000000000000000"
 writes sheet "refused deadlock\nrefused 12" "030C0000 000000000000000000000000 030C0000 000000000000000000000000"
@@ -158,6 +161,7 @@ says paper "sequence 0x414\n" "text: line 1: a sequence in hex has two digits fo
 says paper "sequence 0x4G\n" "text: line 1: 'G' is no hex digit"
 says paper "sequence \xC3\x9F\n" \
     "text: line 1: a sequence with such a character is written in hex, as 0x5441424C45 for TABLE"
+says paper "tick\n\xEF\xBB\xBFtick\n" "text: line 2: no call is named '"$'\xEF\xBB\xBF'"tick'"
 says paper "2: tick\n3: tick\n" "text: line 1: this is event 1, not 2"
 says paper "tick\001\n" "text: line 1: the line is too long, or this is no text"
 says paper "$(printf '%1100d' 0)\n" "text: line 1: the line is too long, or this is no text"

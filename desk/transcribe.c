@@ -11,6 +11,7 @@
 #include <string.h>
 
 #define COUNT(list) (sizeof (list) / sizeof (list)[0])
+#define BYTE_ORDER_MARK "\xEF\xBB\xBF" /* some editors begin a text with it */
 
 enum { PAPER_HEADER = 12, EVENT = 20, SEQUENCE = 16, SHEET_HEADER = 6, ANSWER = 16 };
 enum { MOST = 1000, MOST_SEQUENCES = 64, LONGEST = PAPER_HEADER + EVENT * MOST + SEQUENCE * MOST_SEQUENCES };
@@ -640,6 +641,8 @@ static int next_line(FILE *in, char *text, size_t room)
     }
     n -= n > 0 && text[n - 1] == '\r';
     text[n] = '\0';
+    if (line.number == 1 && strncmp(text, BYTE_ORDER_MARK, strlen(BYTE_ORDER_MARK)) == 0)
+        line.at += strlen(BYTE_ORDER_MARK);
     if (strange)
         complain("the line is too long, or this is no text");
     return c != EOF || n > 0;
