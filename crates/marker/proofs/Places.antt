@@ -36,7 +36,7 @@ pub key-count : (p : List ℕ) → length (keyPlaces p) ≡ eventCount p
 unfolding keyPlaces
 key-count p = answers-count (laid fresh) p 12 (eventCount p)
 
-sheet-count : (t : List ℕ) (from n : ℕ) → length (placesFrom t from n) ≡ n
+pub sheet-count : (t : List ℕ) (from n : ℕ) → length (placesFrom t from n) ≡ n
 sheet-count t from zero = refl
 sheet-count t from (suc n) = ap suc (sheet-count t (from + 16) n)
 
@@ -71,7 +71,7 @@ unfolding answerBytes
 same a t from e = ext-getD 0 (answerBytes a) (run t from 16) refl (agree-at 16 (answerBytes a) (run t from 16) e)
 
 -- each place counts by itself
-right-parts : (xs ys more over : List (List ℕ)) → length xs ≡ length ys → rightPlaces (xs ++ more) (ys ++ over) ≡ rightPlaces xs ys + rightPlaces more over
+pub right-parts : (xs ys more over : List (List ℕ)) → length xs ≡ length ys → rightPlaces (xs ++ more) (ys ++ over) ≡ rightPlaces xs ys + rightPlaces more over
 right-parts [] [] more over h = sym (zero-add (rightPlaces more over))
 right-parts [] (y ∷ ys) more over h = absurd (omega arith)
 right-parts (x ∷ xs) [] more over h = absurd (omega arith)

@@ -1,9 +1,7 @@
 -- One turn of the loops that play a paper: what is left is the part at hand, and what is left after it. Assumes nothing.
-use mathlib.Core.Path.{_≡_, refl, sym, ap, _∙_}
-use mathlib.Core.Bool.{cond}
+use mathlib.Core.Path.{_≡_, refl, ap, _∙_}
 use mathlib.Core.List.{List, [], _∷_, _++_, map, map-append, append-assoc, append-nil}
 use Prim.Native.Nat.{ℕ, zero, suc, _+_, _-_, _*_, _≤_}
-use native.Mathlib.Nat.{zero-add, add-assoc}
 use native.Mathlib.Omega.{arith}
 use lib.ListN.{length, take, drop, length-drop, length-append}
 use lib.Seq.{take-all, take-at, drop-at, length-take-le, take-length, drop-length, drop-drop}
@@ -12,12 +10,11 @@ use Rattle.rules.specs.declared.state.State.{State}
 use Rattle.rules.specs.declared.state.Event.{Event}
 use Rattle.rules.specs.declared.state.Answer.{Answer}
 use Rattle.rules.proofs.Plays.{answers-count}
-use Rattle.locks.specs.Lists.{padded, agree}
+use Rattle.locks.specs.Lists.{padded}
 use Rattle.papers.specs.Bytes.{run}
 use Rattle.papers.specs.Events.{eventAt, eventsFrom}
 use Rattle.papers.specs.Answers.{answerBytes, placesFrom}
 use Rattle.marker.specs.Key.{joined}
-use Rattle.marker.specs.Mark.{rightPlaces}
 use Rattle.rules.specs.Play.{answersFrom, noAnswer, stateFrom}
 
 -- the places of the n - i events from the one at hand on
@@ -44,10 +41,6 @@ places-more s at (suc m) k =
     let f : at + 16 * suc m ≡ at + 16 + 16 * m = omega arith in
     rw (e, f, places-more s (at + 16) m k)
 
-pub places-count : (s : List ℕ) (at m : ℕ) → length (placesFrom s at m) ≡ m
-places-count s at zero = refl
-places-count s at (suc m) = ap suc (places-count s (at + 16) m)
-
 pub places-end : (s : List ℕ) (at m : ℕ) → placesFrom s at (m + 1) ≡ placesFrom s at m ++ run s (at + 16 * m) 16 ∷ []
 places-end s at m = places-more s at m 1
 
@@ -58,14 +51,6 @@ answers-both t (e ∷ es) fs = rw (answers-both (stepOf t e .state) es fs)
 pub joined-both : (xs ys : List (List ℕ)) → joined (xs ++ ys) ≡ joined xs ++ joined ys
 joined-both [] ys = refl
 joined-both (x ∷ xs) ys = rw (joined-both xs ys, append-assoc)
-
-pub right-both : (ks ls xs ys : List (List ℕ)) → length ks ≡ length xs → rightPlaces (ks ++ ls) (xs ++ ys) ≡ rightPlaces ks xs + rightPlaces ls ys
-right-both [] ls [] ys h = sym (zero-add (rightPlaces ls ys))
-right-both [] ls (x ∷ xs) ys h = absurd (omega (arith, h))
-right-both (k ∷ ks) ls [] ys h = absurd (omega (arith, h))
-right-both (k ∷ ks) ls (x ∷ xs) ys h =
-    let e = right-both ks ls xs ys (omega (arith, h)) in
-    rw e (sym (add-assoc (cond (agree 16 k x) 1 0) (rightPlaces ks xs) (rightPlaces ls ys)))
 
 -- the answers of a part, in the array that holds them
 part-answers : (t : State) (es : List Event) (m : ℕ) (xs : List Answer) → length es ≡ m → xs ≡ padded 16 noAnswer (answersFrom t es) → take m xs ≡ answersFrom t es

@@ -15,7 +15,8 @@ use lib.Seq.{take-suc, length-take-le}
 use Rattle.rules.specs.Play.{noAnswer}
 use Rattle.papers.specs.Answers.{answerBytes, placesFrom}
 use Rattle.marker.specs.Mark.{rightPlaces}
-use Rattle.marker.proofs.Turns.{places-end, places-count, right-both}
+use Rattle.marker.proofs.Places.{sheet-count, right-parts}
+use Rattle.marker.proofs.Turns.{places-end}
 
 abbrev Inv-loop : tie.InvT-loop
 Inv-loop sheet i m answers right₀ k₀ right k =
@@ -36,13 +37,13 @@ turn c =
     let b : l .k < length (o .args .t1) = omega (arith, o .good .0 .1 .0 .1, o .pre .0, t) in
     let m : take (l .k + 1) (o .args .t1) ≡ take (l .k) (o .args .t1) ++ a ∷ [] = rw (add-one (l .k)) (take-suc (o .args .t1) (l .k) noAnswer b) in
     let q : length (map answerBytes (take (l .k) (o .args .t1))) ≡ length (placesFrom (o .args .sheet .now) (6 + 16 * o .args .i) (l .k)) =
-    length-map (take (l .k) (o .args .t1)) answerBytes ∙ length-take-le (l .k) (o .args .t1) (omega (arith, b)) ∙ sym (places-count (o .args .sheet .now) (6 + 16 * o .args .i) (l .k)) in
+    length-map (take (l .k) (o .args .t1)) answerBytes ∙ length-take-le (l .k) (o .args .t1) (omega (arith, b)) ∙ sym (sheet-count (o .args .sheet .now) (6 + 16 * o .args .i) (l .k)) in
     let e : 6 + 16 * (o .args .i + l .k) ≡ 6 + 16 * o .args .i + 16 * l .k = omega arith in
     rw (
       m,
       map-append,
       places-end (o .args .sheet .now) (6 + 16 * o .args .i) (l .k),
-      right-both (map answerBytes (take (l .k) (o .args .t1))) (answerBytes a ∷ []) (placesFrom (o .args .sheet .now) (6 + 16 * o .args .i) (l .k)) _ q,
+      right-parts (map answerBytes (take (l .k) (o .args .t1))) (placesFrom (o .args .sheet .now) (6 + 16 * o .args .i) (l .k)) (answerBytes a ∷ []) _ q,
       ← l .inv .2,
       c .same-bytes .ensures,
       c .before .place .ensures,

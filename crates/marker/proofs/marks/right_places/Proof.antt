@@ -14,8 +14,8 @@ use Rattle.rules.specs.Play.{answersFrom, stateFrom}
 use Rattle.papers.specs.Events.{eventsFrom}
 use Rattle.papers.specs.Answers.{answerBytes, placesFrom}
 use Rattle.marker.specs.Mark.{rightPlaces}
-use Rattle.marker.proofs.Places.{answers-count, right-most}
-use Rattle.marker.proofs.Turns.{left, left-more, sheet-more, places-count, right-both, played}
+use Rattle.marker.proofs.Places.{answers-count, sheet-count, right-most, right-parts}
+use Rattle.marker.proofs.Turns.{left, left-more, sheet-more, played}
 
 -- what is counted, and what is left of the two lists
 abbrev Inv-loop : tie.InvT-loop
@@ -32,7 +32,7 @@ most c =
     let x = map answerBytes (take (c .before .before .before .before .lesser .result) (c .before .before .play .result .answers)) in
     let y = placesFrom (o .args .sheet .now) (6 + 16 * c .before .before .before .before .before .before .loop .i) (c .before .before .before .before .lesser .result) in
     let k = right-most x y in
-    let n : length y ≡ c .before .before .before .before .lesser .result = places-count (o .args .sheet .now) (6 + 16 * c .before .before .before .before .before .before .loop .i) (c .before .before .before .before .lesser .result) in
+    let n : length y ≡ c .before .before .before .before .lesser .result = sheet-count (o .args .sheet .now) (6 + 16 * c .before .before .before .before .before .before .loop .i) (c .before .before .before .before .lesser .result) in
     omega (arith, k, n, c .right-few .ensures)
 
 loop-holds : tie.Need-loop-holds Inv-loop μ-loop
@@ -79,9 +79,9 @@ loop-again c =
     let t = c .before .before .before .before .before .before .loop-test .taken in
     let w = played (l .s) p (l .i) m (c .before .before .before .before .events .result) (r .result .answers) (r .result .state) (c .before .before .before .before .events .ensures) (r .ensures .0) (r .ensures .1) in
     let g : l .i + m ≤ n = omega (arith, c .before .before .before .before .before .lesser .ensures, t) in
-    let k = answers-count (l .s) p (12 + 20 * l .i) m ∙ sym (places-count s (6 + 16 * l .i) m) in
+    let k = answers-count (l .s) p (12 + 20 * l .i) m ∙ sym (sheet-count s (6 + 16 * l .i) m) in
     let f : rightPlaces (left (l .s) p n (l .i)) (placesFrom s (6 + 16 * l .i) (n - l .i)) ≡ c .before .right-few .result + rightPlaces (left (r .result .state) p n (l .i + m)) (placesFrom s (6 + 16 * (l .i + m)) (n - (l .i + m))) =
-    rw (left-more (l .s) p n (l .i) m g, sheet-more s n (l .i) m g, c .before .right-few .ensures, w .0, w .1) (right-both (map answerBytes (answersFrom (l .s) (eventsFrom p (12 + 20 * l .i) m))) (left (stateFrom (l .s) (eventsFrom p (12 + 20 * l .i) m)) p n (l .i + m)) (placesFrom s (6 + 16 * l .i) m) (placesFrom s (6 + 16 * (l .i + m)) (n - (l .i + m))) k) in
+    rw (left-more (l .s) p n (l .i) m g, sheet-more s n (l .i) m g, c .before .right-few .ensures, w .0, w .1) (right-parts (map answerBytes (answersFrom (l .s) (eventsFrom p (12 + 20 * l .i) m))) (placesFrom s (6 + 16 * l .i) m) (left (stateFrom (l .s) (eventsFrom p (12 + 20 * l .i) m)) p n (l .i + m)) (placesFrom s (6 + 16 * (l .i + m)) (n - (l .i + m))) k) in
     let b = most (c .before) in
     let e = rw f at (l .inv .3) in (
       search needs,
