@@ -78,7 +78,7 @@ pub(crate) fn trap(p: Process, signal: usize, a: u32) -> Process
     rouse(q)
 }
 
-// As `rows_left`, without the mask (decision 62).
+// As `rows_left`, without the mask (decision 67).
 fn wake_all(s: State, t: Table) -> State
     requires { ⌜ Lays s (view s) × Tidy t ⌝ }
     ensures { λ r. ⌜ Lays r (rowsLeft (rowsOf t) (view s)) ⌝ }
