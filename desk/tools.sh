@@ -22,19 +22,23 @@ else
 fi
 strict="-std=c11 -O2 -Wall -Wextra -pedantic -Wconversion -Werror"
 
-# works COMMAND: is it there, and, if it is a C compiler, does it find the headers of the C library?
-works() {
-    command -v "$1" > /dev/null || return 1
-    [[ $1 != *gcc ]] || "$1" -fsyntax-only -x c - <<< '#include <stdio.h>' 2> /dev/null
+# lack COMMAND: says what is missing, if something is: the command or, for a C compiler, the headers of the C library.
+lack() {
+    if ! command -v "$1" > /dev/null; then
+        echo "$1 is missing"
+    elif [[ $1 == *gcc ]] && ! "$1" -fsyntax-only -x c - <<< '#include <stdio.h>' 2> /dev/null; then
+        echo "$1 finds no headers of the C library"
+    fi
 }
 
-# need COMMAND PACKAGE..: installs the packages if the command is missing, or its headers are.
+# need COMMAND PACKAGE..: installs the packages if something is missing.
 need() {
-    local command=$1 root=""
+    local lack root=""
+    lack=$(lack "$1")
     shift
-    if works "$command"; then return; fi
-    command -v apt-get > /dev/null || { echo "$command or its headers are missing. Packages wanted: $*" >&2; exit 1; }
-    echo "$command or its headers are missing: installing $*" >&2
+    [ "$lack" ] || return 0
+    command -v apt-get > /dev/null || { echo "$lack. Packages wanted: $*" >&2; exit 1; }
+    echo "$lack: installing $*" >&2
     [ "$(id -u)" = 0 ] || root=sudo
     [ "${lists_are_new:-}" ] || { $root apt-get update -qq && lists_are_new=yes; }
     DEBIAN_FRONTEND=noninteractive $root apt-get install -y -qq "$@" > /dev/null
