@@ -206,10 +206,20 @@ demo_says() {
     grep -qxF -- "$line" "$work/log" || { cat "$work/log"; fail "demo, $what: '$line' is not there"; }
 }
 
+# The crates proved are counted, and at the end they are all of crates.txt.
+demo_counts() {
+    local all last
+    all=$(grep -c '^[^#]' crates.txt)
+    last=$(grep -E ' proved [0-9]+ of [0-9]+: ' "$work/demo" | tail -n 1)
+    tries=$((tries + 1))
+    [[ $last == *" proved $all of $all: "* ]] || fail "make demo: its last count of crates proved is '$last', and there are $all"
+}
+
 demo() {
     local folder line own="$work/my own.sheet" mark
     tries=0
     examples/demo.sh > "$work/demo" 2>&1 || { cat "$work/demo"; fail "make demo"; }
+    demo_counts
     for folder in examples/*/; do
         while read -r line; do
             tries=$((tries + 1))
