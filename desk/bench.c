@@ -5,7 +5,7 @@
  *   cost KIND EVENTS ROUTINE OURS PLAIN RATIO     nanoseconds an event
  *   growth KIND ROUTINE FROM OURS PLAIN           cost at 1,000 events by that at FROM events (1 is flat)
  *   stack ROUTINE OURS PLAIN                      bytes
- *   bar NAME MEASURED BAR yes|no
+ *   bar NAME MEASURED BAR yes|no KIND..           the kinds that are held to it
  *
  * With --check the exit status is 1 if a bar is missed.
  */
@@ -292,9 +292,13 @@ static double worst_growth(void)
     return worst;
 }
 
-static int say_bar(const char *name, double measured, double bar)
+/* A bar that is held to the kinds from one up to, and without, another. */
+static int say_bar(const char *name, double measured, double bar, size_t from, size_t to)
 {
-    printf("bar %s %.2f %.2f %s\n", name, measured, bar, measured <= bar ? "yes" : "no");
+    printf("bar %s %.2f %.2f %s", name, measured, bar, measured <= bar ? "yes" : "no");
+    for (size_t kind = from; kind < to; kind++)
+        printf(" %s", kind_name(kind));
+    putchar('\n');
     return measured <= bar;
 }
 
@@ -330,9 +334,9 @@ static int say_bars(void)
 
     for (enum routine r = MARK; r < ROUTINES; r++)
         printf("stack %s %.0f %.0f\n", routine_name[r], stack_used[r][OURS], stack_used[r][PLAIN]);
-    kept &= say_bar("ratio", worst_ratio(), ratio_bar);
-    kept &= say_bar("stack", deepest, stack_bar);
-    kept &= say_bar("growth", worst_growth(), growth_bar);
+    kept &= say_bar("ratio", worst_ratio(), ratio_bar, 0, DRAWN);
+    kept &= say_bar("stack", deepest, stack_bar, 0, KINDS);
+    kept &= say_bar("growth", worst_growth(), growth_bar, STORY, KINDS);
     return kept;
 }
 

@@ -3,7 +3,7 @@
 # transcribe-test.sh sees to that). Part of desk/test.sh.
 # What links the archive runs with it under both sanitizers on x86-64. Elsewhere it does so twice: for this machine
 # under both, with the plain C routines in place of the archive's, and for x86-64 with the archive, where the emulator
-# bears only the one for undefined behaviour.
+# bears only the one for undefined behaviour. And compare is tried on routines that are wrong.
 # shellcheck disable=SC2086,SC2154 # lists of words are meant to be split; tools.sh gives them
 set -eu
 cd "$(dirname "$0")/.."
@@ -16,6 +16,8 @@ archive=target/staticlib/libmarker.a
 both="-std=c11 -g -O1 -fsanitize=address,undefined -fno-sanitize-recover=all"
 traps="-std=c11 -g -O1 -fsanitize=undefined -fsanitize-undefined-trap-on-error"
 stand_in="-Dbrinefeather_mark=plain_mark -Dbrinefeather_key=plain_key"
+hasty="$own_cc $both -O0 -Idesk"
+as_archive="-Dplain_mark=brinefeather_mark -Dplain_key=brinefeather_key -Dstate_fresh=other_fresh -Dstate_event=other_event"
 runs=0
 
 warnings() {
@@ -64,7 +66,30 @@ sanitizers() {
     leaks=1 clean 0 "$work/plain-test"
 }
 
+# wrong CHANGE: with this change of the plain routines, in the archive's place or in their own, compare tells, and ends well.
+wrong() {
+    local side
+    sed "$1" desk/plain.c > "$work/wrong.c"
+    $hasty $as_archive -o "$work/wrong-archive" "$work"/{wrong.c,compare.o,generate.o,observe.o,plain.o}
+    $hasty -o "$work/wrong-plain" "$work"/{wrong.c,compare.o,generate.o,observe.o,archive.o}
+    for side in archive plain; do
+        clean 1 "$work/wrong-$side" 1 1
+        grep -q '^DIFFERENT paper 0 ' "$work/said" || { echo "FAIL compare says nothing of this, in the $side side: $1" >&2; exit 1; }
+    done
+}
+
+wrong_models() {
+    local file
+    for file in compare generate observe plain; do $hasty -c -o "$work/$file.o" "desk/$file.c"; done
+    $hasty $as_archive -c -o "$work/archive.o" desk/plain.c
+    wrong 's/MOST_EVENTS = 1000/MOST_EVENTS = 999/'
+    wrong 's/return R_NOROOM/return 21/'
+    wrong 's/return SHEET_HEADER .*/return UINT64_MAX;/'
+    wrong 's/an->number = .*/an->number = 200;/'
+}
+
 warnings
 static_check
 sanitizers
+wrong_models
 echo "C: ${#files[@]} files without a warning, nothing from cppcheck; $runs runs clean under the sanitizers"

@@ -1,7 +1,8 @@
 /*
  * Plays generated papers, their sheets and damaged files through the archive's two routines and through the plain ones,
  * and compares every byte. Usage: compare PAPERS SEED. Fails too when an answer, refusal, call, edge or situation that
- * can be reached was not: 600 papers reach all of them.
+ * can be reached was not: 600 papers reach all of them. Either maker may be wrong, so nothing that a routine returns is
+ * taken for a length here.
  */
 #include <inttypes.h>
 #include <stdio.h>
@@ -16,7 +17,8 @@
 #define ONE_OF(list) ((list)[below(COUNT(list))])
 
 enum { PAPER_HEADER = 12, EVENT = 20, SHEET_HEADER = 6, ANSWER = 16, MOST = 1000 };
-enum { GUARD = 64, OVER = 65536, STORE = BRINEFEATHER_LONGEST_PAPER + OVER + 24 };
+enum { MOST_SEQUENCES = 64, OVER = 65536, STORE = BRINEFEATHER_LONGEST_PAPER + OVER + 24 };
+enum { GUARD = 64, BEHIND = BRINEFEATHER_LONGEST_KEY }; /* around a buffer; a whole key fits behind it */
 enum { SHEETS = 2, DAMAGED_PAPERS = 6 }; /* of each paper; a damaged sheet comes with each */
 
 struct file {
@@ -24,7 +26,7 @@ struct file {
     size_t len;
 };
 
-static enum generate_theme theme;
+static const char *kind; /* of the paper that is played */
 static uint64_t refusals[19], papers, events_played, damaged, different;
 
 /* ---- chance and files ---- */
@@ -92,8 +94,8 @@ static void keep_events(struct file *paper, size_t events)
 static void differ(const char *what, uint64_t ours, uint64_t plains)
 {
     if (different++ < 20)
-        printf("DIFFERENT paper %" PRIu64 " (%s), %s: %016" PRIX64 ", plain %016" PRIX64 "\n", papers,
-               generate_name(theme), what, ours, plains);
+        printf("DIFFERENT paper %" PRIu64 " (%s), %s: %016" PRIX64 ", plain %016" PRIX64 "\n", papers, kind, what,
+               ours, plains);
 }
 
 static uint8_t *block(size_t len)
@@ -124,7 +126,7 @@ static void take_back(const char *what, uint8_t *bytes, const struct file *f)
 
 static void count_refusal(uint64_t n)
 {
-    if (brinefeather_refused(n))
+    if (n < COUNT(refusals))
         refusals[n]++;
 }
 
@@ -187,7 +189,7 @@ static int kept(const uint8_t *area, size_t room, uint64_t n, uint8_t guard)
 {
     size_t written = brinefeather_refused(n) ? 0 : (size_t)n;
 
-    return all(area, GUARD, guard) && written <= room && all(area + GUARD + written, room - written + GUARD, guard);
+    return all(area, GUARD, guard) && written <= room && all(area + GUARD + written, room - written + BEHIND, guard);
 }
 
 static void show(const char *what, const uint8_t *bytes, size_t len)
@@ -231,9 +233,10 @@ static void see_key(uint64_t length, size_t room)
     saw(OBSERVE_BLANK_ROOM, length == R_BLANK && room < brinefeather_key_length(1));
 }
 
+/* The key is all that the plain routine leaves in its buffer. */
 static void compare_keys(const char *what, const struct file *paper, size_t room, struct file *key)
 {
-    const size_t size = GUARD + room + GUARD;
+    const size_t size = GUARD + room + BEHIND;
     const uint8_t guard = (uint8_t)draw();
     uint8_t *p = lend(paper), *ours = block(size), *plains = block(size);
     uint64_t our_length, plain_length;
@@ -250,8 +253,8 @@ static void compare_keys(const char *what, const struct file *paper, size_t room
     take_back("paper written", p, paper);
     count_refusal(plain_length);
     see_key(plain_length, room);
-    key->len = brinefeather_refused(plain_length) ? 0 : (size_t)plain_length;
-    memcpy(key->bytes, plains + GUARD, key->len);
+    key->len = room;
+    memcpy(key->bytes, plains + GUARD, room);
     free(ours);
     free(plains);
 }
@@ -381,21 +384,56 @@ static void play_damaged_papers(const struct file *paper, const struct file *key
     }
 }
 
-static void play_paper(size_t events)
+static void play_paper(enum generate_theme theme, size_t events)
 {
     static struct file paper, key, none;
+    const size_t enough = brinefeather_key_length(events);
 
+    kind = generate_name(theme);
     paper.len = generate_paper(theme, events, paper.bytes);
-    observe_paper(paper.bytes);
-    compare_keys("key", &paper, brinefeather_key_length(events), &key);
-    compare_keys("key, more room", &paper, key.len + 1u + below(99), &none);
-    compare_keys("key, one byte short", &paper, key.len - 1, &none);
-    compare_keys("key, short", &paper, below(key.len), &none);
+    if (paper.len == 0 || !observe_paper(paper.bytes)) {
+        differ("not played: the plain model comes to what cannot be", 0, 0);
+        return;
+    }
+    compare_keys("key", &paper, enough, &key);
+    compare_keys("key, more room", &paper, enough + 1u + below(99), &none);
+    compare_keys("key, one byte short", &paper, enough - 1, &none);
+    compare_keys("key, short", &paper, below(enough), &none);
     compare_keys("key, no room", &paper, 0, &none);
     play_sheets(&paper, &key, events);
     play_damaged_papers(&paper, &key, events);
-    papers++;
     events_played += events;
+}
+
+/* Events and sequences of zeros. */
+static void lay_out(struct file *paper, size_t events, size_t sequences)
+{
+    const size_t start = PAPER_HEADER + EVENT * events, end = start + SEQ * sequences;
+    const size_t header[] = {1, events, PAPER_HEADER, sequences, start, end};
+
+    memset(paper->bytes, 0, end);
+    for (size_t i = 0; i < COUNT(header); i++)
+        put16(paper->bytes + 2 * i, header[i]);
+    paper->len = end;
+}
+
+/* The most that a paper may have, and one more, where nothing else is wrong. */
+static void play_limits(void)
+{
+    static const struct {
+        const char *what;
+        size_t events, sequences;
+    } limits[] = {{"1,000 events and 64 sequences", MOST, MOST_SEQUENCES}, {"1,001 events", MOST + 1, 0},
+                  {"65 sequences", 1, MOST_SEQUENCES + 1}};
+    static struct file paper, sheet, none;
+
+    kind = "limits";
+    put_sheet_header(&sheet, 0);
+    for (size_t i = 0; i < COUNT(limits); i++) {
+        lay_out(&paper, limits[i].events, limits[i].sequences);
+        compare_keys(limits[i].what, &paper, brinefeather_key_length(limits[i].events), &none);
+        compare_marks(limits[i].what, &paper, &sheet);
+    }
 }
 
 /* The first paper of each theme has 1,000 events, the second 1; most others have 20 to 400, fewer the likelier. */
@@ -435,10 +473,10 @@ int main(int argc, char **argv)
         return 2;
     }
     generate_seed(strtoull(argv[2], NULL, 10));
-    while (papers < wanted) {
-        theme = (enum generate_theme)(papers % GENERATE_THEMES);
-        play_paper(draw_length());
-    }
+    setvbuf(stdout, NULL, _IOLBF, 0); /* what was found stands there, should a wrong routine end the program */
+    for (; papers < wanted; papers++)
+        play_paper((enum generate_theme)(papers % GENERATE_THEMES), draw_length());
+    play_limits();
     missed = observe_print();
     missed += print_refusals();
     printf("compare: %" PRIu64 " papers, %" PRIu64 " events, %" PRIu64 " damaged files, %" PRIu64 " different, "

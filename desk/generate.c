@@ -38,6 +38,7 @@ static size_t sequence_count, wanted, written;
 static uint16_t number_turn; /* of call numbers, directly and by indirect */
 static uint8_t kind_turn;
 static uint8_t *events;
+static int astray; /* has the plain model come to what cannot be? Then nothing more is drawn by it. */
 
 /* ---- chance ---- */
 
@@ -149,7 +150,7 @@ static size_t put_around(uint8_t *paper)
 
 static int full(void)
 {
-    return written == wanted;
+    return written == wanted || astray;
 }
 
 static void set_sequence(struct event *ev, uint16_t number)
@@ -159,13 +160,53 @@ static void set_sequence(struct event *ev, uint16_t number)
         memcpy(ev->seq, sequences[number - 1], SEQ);
 }
 
+static const struct process *find_in(const struct state *s, uint16_t pid)
+{
+    for (int i = 0; i < s->live; i++)
+        if (s->process[i].pid == pid)
+            return &s->process[i];
+    return NULL;
+}
+
+static int state_can_be(const struct state *s)
+{
+    if (s->live < 1 || s->live > PROCESSES || s->rows > ROWS)
+        return 0;
+    for (int i = 0; i < s->rows; i++)
+        if (s->row[i].len > SEQ || !find_in(s, s->row[i].owner))
+            return 0;
+    return 1;
+}
+
+static int answer_can_be(const struct answer *an)
+{
+    return an->kind == REFUSED ? an->number >= R_BADSTATE && an->number <= R_NOTLOCKED
+                               : an->kind < REFUSED && an->number == 0;
+}
+
+int generate_play(struct state *s, const struct event *ev, struct answer *an)
+{
+    state_event(s, ev, an);
+    return state_can_be(s) && answer_can_be(an);
+}
+
+static int play(struct state *s, struct event *ev, uint16_t number, struct answer *an)
+{
+    set_sequence(ev, number);
+    return generate_play(s, ev, an);
+}
+
 /* Plays an event and writes it, unless the paper has all its events. */
 static void act(struct event *ev, uint16_t number)
 {
+    struct state after = st;
+
     if (full())
         return;
-    set_sequence(ev, number);
-    state_event(&st, ev, &last);
+    if (play(&after, ev, number, &last))
+        st = after;
+    else
+        astray = 1;
     put_event(events + EVENT * written++, ev, number);
 }
 
@@ -183,10 +224,7 @@ static int able(const struct process *p)
 
 static const struct process *find(uint16_t pid)
 {
-    for (int i = 0; i < st.live; i++)
-        if (st.process[i].pid == pid)
-            return &st.process[i];
-    return NULL;
+    return find_in(&st, pid);
 }
 
 static int is_able(uint16_t pid)
@@ -400,8 +438,8 @@ static int dull(struct event *ev, uint16_t number)
     struct state after = st;
     struct answer an;
 
-    set_sequence(ev, number);
-    state_event(&after, ev, &an);
+    if (!play(&after, ev, number, &an))
+        return 0;
     return !worth(&an) || (habit.careful && an.kind != REFUSED && stuck(&after));
 }
 
@@ -1169,9 +1207,7 @@ static void play_edge(struct event *ev, uint16_t number)
     struct state after = st;
     struct answer an;
 
-    set_sequence(ev, number);
-    state_event(&after, ev, &an);
-    if (an.kind == REFUSED || !stuck(&after))
+    if (!play(&after, ev, number, &an) || an.kind == REFUSED || !stuck(&after))
         act(ev, number);
     else
         tick();
@@ -1334,11 +1370,12 @@ static void play_part(void (*part)(void))
 size_t generate_paper(enum generate_theme theme, size_t count, uint8_t *paper)
 {
     state_fresh(&st);
+    astray = !state_can_be(&st);
     events = paper + PAPER_HEADER;
     wanted = count;
     written = 0;
     themes[theme].habit();
     while (!full())
         play_part(themes[theme].part);
-    return put_around(paper);
+    return astray ? 0 : put_around(paper);
 }

@@ -29,9 +29,15 @@ uint64_t generate_draw(void);
 uint16_t generate_below(size_t n);
 int generate_one_in(size_t n);
 
+/* Plays an event on the plain model. Returns 0 if the state or the answer is one that cannot be: the model is wrong. */
+struct state;
+struct event;
+struct answer;
+int generate_play(struct state *s, const struct event *ev, struct answer *an);
+
 /*
- * Writes a legal paper with exactly that many events, 0 to 1,000, and returns its length. The paper has room for
- * BRINEFEATHER_LONGEST_PAPER bytes.
+ * Writes a legal paper with exactly that many events, 0 to 1,000, and returns its length, or 0 if the plain model comes
+ * to what cannot be. The paper has room for BRINEFEATHER_LONGEST_PAPER bytes.
  */
 size_t generate_paper(enum generate_theme theme, size_t events, uint8_t *paper);
 

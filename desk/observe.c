@@ -1,6 +1,7 @@
 #include <inttypes.h>
 #include <stdio.h>
 #include <string.h>
+#include "generate.h"
 #include "observe.h"
 #include "plain.h"
 
@@ -332,7 +333,7 @@ static void see_kill(void)
         see_beyond_pid();
     SAW(PRIV_KILL, now.an.number == R_PRIV);
     SAW(FIRST_NOPROC, now.an.number == R_NOPROC && unprivileged());
-    if (now.an.kind == REFUSED)
+    if (now.an.kind == REFUSED || !to || now.ev.d2 < 1 || now.ev.d2 > SIGNALS)
         return;
     SAW(KILL_SELF, now.an.kind == ENDED);
     SAW(KILL_GRANT, now.an.kind == DONE && now.an.ended && now.an.woken);
@@ -487,7 +488,7 @@ static void see_event_kind(void)
     SAW(TICK_ENDS_2, now.ev.kind == EV_TICK && bits(an->ended) >= 2);
     SAW(TICK_ENDS_3, now.ev.kind == EV_TICK && bits(an->ended) >= 3);
     SAW(TICK_TRAP_TWO, now.ev.kind == EV_TICK && count_trapped() >= 2);
-    SAW(TAKE_LOWEST, now.ev.kind == EV_TAKE && bits(now.caller->pending) >= 2);
+    SAW(TAKE_LOWEST, now.ev.kind == EV_TAKE && now.caller && bits(now.caller->pending) >= 2);
     SAW(TAKE_NONE, now.ev.kind == EV_TAKE && an->d3 == 0);
     SAW(REPORT_NEVER, now.ev.kind == EV_REPORT && an->a0 == WAKE_NEVER);
     SAW(REPORT_GRANTED, now.ev.kind == EV_REPORT && an->a0 == WAKE_GRANTED);
@@ -605,10 +606,11 @@ static unsigned call_made(void)
     return now.ev.call == INDIRECT ? now.ev.d0 : now.ev.call;
 }
 
-static void observe_event(void)
+static int observe_event(void)
 {
     now.before = now.after;
-    state_event(&now.after, &now.ev, &now.an);
+    if (!generate_play(&now.after, &now.ev, &now.an))
+        return 0;
     now.caller = find(&now.before, now.ev.caller);
     now.call = call_made();
     answers[now.an.kind]++;
@@ -624,9 +626,10 @@ static void observe_event(void)
     see_all_processes();
     if (now.after.live > most_live)
         most_live = now.after.live;
+    return 1;
 }
 
-void observe_paper(const uint8_t *paper)
+int observe_paper(const uint8_t *paper)
 {
     const unsigned events = get16(paper + 2), sequences = get16(paper + 6);
 
@@ -638,8 +641,10 @@ void observe_paper(const uint8_t *paper)
     most_live = 1;
     for (unsigned i = 0; i < events; i++) {
         read_event(paper, paper + PAPER_HEADER + EVENT * i);
-        observe_event();
+        if (!observe_event())
+            return 0;
     }
+    return 1;
 }
 
 /* ---- printing: each returns how many were not reached ---- */

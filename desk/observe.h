@@ -106,8 +106,8 @@ enum observe_situation { OBSERVE_SITUATIONS(OBSERVE_NUMBER) OBSERVE_COUNT };
 
 void observe_saw(enum observe_situation situation);
 
-/* Plays a legal paper. */
-void observe_paper(const uint8_t *paper);
+/* Plays a legal paper. Returns 0 if the plain model comes to what cannot be. */
+int observe_paper(const uint8_t *paper);
 
 /* Prints all counts, and names what was not reached; returns how many these are. */
 unsigned observe_print(void);

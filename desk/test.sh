@@ -206,10 +206,20 @@ demo_says() {
     grep -qxF -- "$line" "$work/log" || { cat "$work/log"; fail "demo, $what: '$line' is not there"; }
 }
 
+# The crates proved are counted, and at the end they are all of crates.txt.
+demo_counts() {
+    local all last
+    all=$(grep -c '^[^#]' crates.txt)
+    last=$(grep -E ' proved [0-9]+ of [0-9]+: ' "$work/demo" | tail -n 1)
+    tries=$((tries + 1))
+    [[ $last == *" proved $all of $all: "* ]] || fail "make demo: its last count of crates proved is '$last', and there are $all"
+}
+
 demo() {
     local folder line own="$work/my own.sheet" mark
     tries=0
     examples/demo.sh > "$work/demo" 2>&1 || { cat "$work/demo"; fail "make demo"; }
+    demo_counts
     for folder in examples/*/; do
         while read -r line; do
             tries=$((tries + 1))
@@ -292,6 +302,27 @@ installation() {
     echo "installation: $(find "$prefix" -type f | wc -l) files, the example compiled and ran"
 }
 
+# ---- the documents
+
+# cited: the numbers of the decisions that "decision N" and "decisions N, M and K to L" cite, also across lines.
+cited() {
+    find README.md docs desk crates -type f -exec sed -E 's/^ *(\/\/|#|\*) *//' {} + | tr -s '\n ' ' ' \
+        | grep -aoiE 'decisions? [0-9]+((,| and|, and| to) [0-9]+)*' | tr -d , | awk '{
+            for (i = 2; i <= NF; i++)
+                if ($i == "to") for (n = $(i - 1); n < $(i + 1); n++) print n
+                else if ($i != "and") print $i
+        }' | sort -u
+}
+
+documents() {
+    local said
+    said=$(LC_ALL=C.UTF-8 grep -rnE '^.{201}' docs | cut -d: -f1,2)
+    [ -z "$said" ] || fail "lines longer than 200 characters:"$'\n'"$said"
+    said=$(comm -23 <(cited) <(sed -n 's/^\([0-9]*\)\. .*/\1/p' docs/DECISIONS.md | sort -u))
+    [ -z "$said" ] || fail "cited and not in docs/DECISIONS.md: decision" $said
+    echo "documents: no line longer than 200 characters, $(cited | wc -l) decisions cited, all there"
+}
+
 build
 vectors
 plain_model
@@ -302,3 +333,4 @@ by_hand
 demo
 installation
 desk/check-c.sh
+documents

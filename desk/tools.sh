@@ -22,19 +22,23 @@ else
 fi
 strict="-std=c11 -O2 -Wall -Wextra -pedantic -Wconversion -Werror"
 
-# works COMMAND: is it there, and, if it is a C compiler, does it find the headers of the C library?
-works() {
-    command -v "$1" > /dev/null || return 1
-    [[ $1 != *gcc ]] || "$1" -fsyntax-only -x c - <<< '#include <stdio.h>' 2> /dev/null
+# lack COMMAND: says what is missing, if something is: the command or, for a C compiler, the headers of the C library.
+lack() {
+    if ! command -v "$1" > /dev/null; then
+        echo "$1 is missing"
+    elif [[ $1 == *gcc ]] && ! "$1" -fsyntax-only -x c - <<< '#include <stdio.h>' 2> /dev/null; then
+        echo "$1 finds no headers of the C library"
+    fi
 }
 
-# need COMMAND PACKAGE..: installs the packages if the command is missing, or its headers are.
+# need COMMAND PACKAGE..: installs the packages if something is missing.
 need() {
-    local command=$1 root=""
+    local lack root=""
+    lack=$(lack "$1")
     shift
-    if works "$command"; then return; fi
-    command -v apt-get > /dev/null || { echo "$command or its headers are missing. Packages wanted: $*" >&2; exit 1; }
-    echo "$command or its headers are missing: installing $*" >&2
+    [ "$lack" ] || return 0
+    command -v apt-get > /dev/null || { echo "$lack. Packages wanted: $*" >&2; exit 1; }
+    echo "$lack: installing $*" >&2
     [ "$(id -u)" = 0 ] || root=sudo
     [ "${lists_are_new:-}" ] || { $root apt-get update -qq && lists_are_new=yes; }
     DEBIAN_FRONTEND=noninteractive $root apt-get install -y -qq "$@" > /dev/null
@@ -46,12 +50,29 @@ quietly() {
     said=$("$@" 2>&1) || { tail -n 20 <<< "$said" >&2; return 1; }
 }
 
-# progress: of what rt says, shows each crate as it is proved, and every five seconds that it is still at work.
+# crate_count [NAME..]: how many crates of crates.txt these are, with all that they stand on; without a name, all.
+crate_count() {
+    awk -F: -v names="$*" '
+    function visit(name, parts, n) {
+        if (!(name in below) || name in visited) return
+        visited[name]
+        count++
+        for (n = split(below[name], parts, " "); n; n--) visit(parts[n])
+    }
+    { sub(/#.*/, "") }
+    NF { below[$1] = $2; all = all " " $1 }
+    END { for (n = split(names == "" ? all : names, wanted, " "); n; n--) visit(wanted[n]); print count + 0 }' crates.txt
+}
+
+# progress COUNT: of what rt says, shows each crate as it is proved, of so many, and every five seconds that it is still
+# at work. Of an archive rt says only that it is there.
 progress() {
-    local line begun=$SECONDS
+    local line proved=0 begun=$SECONDS crate='^rt: ([a-z0-9_]+) proved (.*)' archive='^rt: (target/staticlib/[^ ]+) has '
     while true; do
         if IFS= read -r -t 5 line; then
-            [[ $line != "rt: "*" proved "* ]] || printf '%5d s  %s\n' $((SECONDS - begun)) "${line#rt: }"
+            [[ $line =~ $crate || $line =~ $archive ]] || continue
+            proved=$((proved + 1))
+            printf '%5d s  proved %d of %d: %s\n' $((SECONDS - begun)) $proved "$1" "${BASH_REMATCH[*]:1}"
         elif [ $? -gt 128 ]; then
             printf '%5d s  ..\n' $((SECONDS - begun))
         else
@@ -62,8 +83,9 @@ progress() {
 
 # prove WORD..: runs rt with these words and shows its progress, and if it fails the end of what it said.
 prove() {
-    local log
+    local log count
     log=$(mktemp)
-    (set -o pipefail; rt "$@" 2>&1 | tee "$log" | progress) || { tail -n 20 "$log" >&2; rm "$log"; return 1; }
+    count=$(crate_count "${@:2}")
+    (set -o pipefail; rt "$@" 2>&1 | tee "$log" | progress "$count") || { tail -n 20 "$log" >&2; rm "$log"; return 1; }
     rm "$log"
 }
