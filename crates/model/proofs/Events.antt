@@ -171,24 +171,19 @@ is-call k a b c d e = let h = ltb-false 4 k b in omega (arith, a, h, c, d, e)
 -- ---- the number of a call
 
 -- the event asks for call n
-pub record Asks (e : Event) (n : ℕ) : Type 0 where
-  pub once : (eqb (e .call) indirect && eqb (e .d0) indirect) ≡ false
-  pub is : n ≡ cond (eqb (e .call) indirect) (e .d0) (e .call)
+abbrev pub Asks : Event → ℕ → Type 0
+Asks e n = n ≡ cond (eqb (e .call) indirect) (e .d0) (e .call)
 
-pub asks-indirect : {e : Event} {n : ℕ} → e .call ≡ indirect → (e .d0 ≡ indirect → ⊥) → n ≡ e .d0 → Asks e n
-asks-indirect {e} h k q = record { once = rw (eq-eqb (e .call) indirect h, ne-eqb (e .d0) indirect k); is = rw (eq-eqb (e .call) indirect h) q }
+pub asks-indirect : (e : Event) {n : ℕ} → e .call ≡ indirect → n ≡ e .d0 → Asks e n
+asks-indirect e h q = rw (eq-eqb (e .call) indirect h) q
 
-pub asks-plain : {e : Event} {n : ℕ} → (e .call ≡ indirect → ⊥) → n ≡ e .call → Asks e n
-asks-plain {e} h q = record { once = rw (ne-eqb (e .call) indirect h); is = rw (ne-eqb (e .call) indirect h) q }
+pub asks-plain : (e : Event) {n : ℕ} → (e .call ≡ indirect → ⊥) → n ≡ e .call → Asks e n
+asks-plain e h q = rw (ne-eqb (e .call) indirect h) q
 
-module _ (s : State) (p : Process) (e : Event) where
-  pub asks-twice : e .call ≡ indirect → e .d0 ≡ indirect → refusedBy 5 s ≡ settled s (called p e (view s))
-  unfolding called settled
-  asks-twice h k = rw (eq-eqb (e .call) indirect h, eq-eqb (e .d0) indirect k)
-
-  pub asks-class : {n : ℕ} {x : Class} → Asks e n → x ≡ classOf n → settled s (ofClass x p e (view s)) ≡ settled s (called p e (view s))
-  unfolding called settled
-  asks-class a q = rw (a .once, q, a .is)
+pub asks-class : (s : State) (p : Process) (e : Event) {n : ℕ} {x : Class} → Asks e n → x ≡ classOf n
+    → settled s (ofClass x p e (view s)) ≡ settled s (called p e (view s))
+unfolding called
+asks-class s p e a q = rw (q, a)
 
 -- ---- a child
 

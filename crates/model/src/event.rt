@@ -1,4 +1,5 @@
 // The course of an event.
+use numbers::class_of;
 use processes::*;
 use rules::calls::*;
 use rules::state::*;
@@ -45,6 +46,7 @@ fn of_call(c: Call) -> Course
         Call::Kill => Course::Kill,
         Call::Exit => Course::Exit,
         Call::FShell => Course::FShell,
+        Call::Indirect => Course::Refused(BADCALL),
     }
 }
 
@@ -54,9 +56,6 @@ fn course_of_call(e: Event) -> Course
 {
     let mut number = e.call as u16;
     if number == 0x51 {
-        if e.d0 == 0x51 {
-            return Course::Refused(BADCALL);
-        }
         number = e.d0;
     }
     match class_of(number) {

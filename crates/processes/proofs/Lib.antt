@@ -1,4 +1,3 @@
 pub mod Children
 pub mod Taking
 pub mod Arguments
-pub mod Classes

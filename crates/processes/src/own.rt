@@ -1,8 +1,8 @@
 // The calls that touch their caller alone, take and the wake report.
 use crate::process::*;
+use numbers::in_priority;
 use rules::calls::*;
 use rules::state::*;
-use soundness::in_priority;
 ghost use mathlib.Core.Path.{_≡_};
 ghost use mathlib.Core.Bool.{false};
 ghost use Rattle.rules.specs.State.{privileged, withUser, withGroup};

@@ -17,7 +17,7 @@ use Rattle.rules.specs.Demands.{Step, whole, second, counts, delivers, a
 use Rattle.rules.specs.declared.state.Process.{Process}
 use Rattle.rules.specs.declared.state.Event.{Event}
 use Rattle.rules.specs.declared.calls.Call.{Call}
-use Rattle.rules.specs.declared.calls.Call.the-variants.{Own, Lock, Unlock, Kill, Exit, FShell}
+use Rattle.rules.specs.declared.calls.Call.the-variants.{Own, Lock, Unlock, Kill, Exit, FShell, Indirect}
 use Rattle.rules.specs.declared.calls.Class.{Class}
 use Rattle.rules.specs.declared.calls.Class.the-variants.{Modelled, NotModelled, BadCall}
 use Rattle.rules.proofs.Walk.{Leaves}
@@ -56,6 +56,7 @@ module _ (m : Machine) where
   moved-call Kill p e = λ _ _ _. let z = went (less-arrives (e .d2) (e .d3) m) in (λ _. z, λ _. z)
   moved-call Exit p e = λ _. went (less-ends (p .pid) m)
   moved-call FShell p e = λ _ _. went (fewer-refl (m .rows))
+  moved-call Indirect p e = tt
 
   moved-class : (c : Class) (p : Process) (e : Event) → Leaves (Moved m) (ofClass c p e m)
   unfolding ofClass
@@ -69,7 +70,7 @@ module _ (m : Machine) where
       let p = processOf m (e .caller) in
       λ _. (
         λ t. absurd (k (eqb-true (e .kind) 2 t)),
-        λ _ _ _. (λ _ _ _. moved-class _ p e, λ _. moved-own (either (eqb (e .kind) 3) (taken p) (reported p))),
+        λ _ _ _. (λ _ _. moved-class _ p e, λ _. moved-own (either (eqb (e .kind) 3) (taken p) (reported p))),
       )
 
   moved : (t : Step) → NoTick t → Moved m (after t m)

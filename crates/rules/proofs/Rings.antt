@@ -17,7 +17,7 @@ use Rattle.rules.specs.Step.{reported, ofCaller, outcome}
 use Rattle.rules.specs.declared.state.Process.{Process}
 use Rattle.rules.specs.declared.state.Event.{Event}
 use Rattle.rules.specs.declared.calls.Call.{Call}
-use Rattle.rules.specs.declared.calls.Call.the-variants.{Own, Lock, Unlock, Kill, Exit, FShell}
+use Rattle.rules.specs.declared.calls.Call.the-variants.{Own, Lock, Unlock, Kill, Exit, FShell, Indirect}
 use Rattle.rules.specs.declared.calls.Class.{Class}
 use Rattle.rules.specs.declared.calls.Class.the-variants.{Modelled, NotModelled, BadCall}
 use Rattle.rules.proofs.Walk.{Leaves}
@@ -88,6 +88,7 @@ module _ (p : Process) (e : Event) (m : Machine) (y : Free m) where
   free-call Kill = λ _ _ _. let z = fewer-free (less-arrives (e .d2) (e .d3) m) y in (λ _. z, λ _. z)
   free-call Exit = λ _. fewer-free (less-ends (p .pid) m) y
   free-call FShell = λ _ _. y
+  free-call Indirect = tt
 
   free-class : (c : Class) → Leaves Free (ofClass c p e m)
   unfolding ofClass
@@ -101,5 +102,5 @@ free-stays e m y =
     let p = processOf m (e .caller) in
     λ _. (
       λ _. fewer-free (less-ticked m) y,
-      λ _ _ _. (λ _ _ _. free-class p e m y _, λ _. free-own m y (either (eqb (e .kind) 3) (taken p) (reported p))),
+      λ _ _ _. (λ _ _. free-class p e m y _, λ _. free-own m y (either (eqb (e .kind) 3) (taken p) (reported p))),
     )

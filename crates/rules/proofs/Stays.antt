@@ -25,7 +25,7 @@ use Rattle.rules.specs.declared.state.Event.{Event}
 use Rattle.rules.specs.declared.calls.OwnCall.{OwnCall}
 use Rattle.rules.specs.declared.calls.OwnCall.the-variants.{GetUser, SetUser, GetGroup, SetGroup, GetPrior, SetPrior, GetProc, Signal, Sleep, Alarm, Pause}
 use Rattle.rules.specs.declared.calls.Call.{Call}
-use Rattle.rules.specs.declared.calls.Call.the-variants.{Own, Lock, Unlock, Kill, Exit, FShell}
+use Rattle.rules.specs.declared.calls.Call.the-variants.{Own, Lock, Unlock, Kill, Exit, FShell, Indirect}
 use Rattle.rules.specs.declared.calls.Class.{Class}
 use Rattle.rules.specs.declared.calls.Class.the-variants.{Modelled, NotModelled, BadCall}
 use Rattle.rules.proofs.Walk.{Leaves}
@@ -162,6 +162,7 @@ module _ (p : Process) (e : Event) (m : Machine) (r : Ready m p) (o : Ok m) wher
   sound-call Kill z = sound-kill
   sound-call Exit z = λ h. ok-ends (p .pid) m (eqb-false (p .pid) 1 h) o
   sound-call FShell z = sound-fshell
+  sound-call Indirect z = tt
 
   sound-class : (c : Class) → p .signals .pending ≡ 0 → Leaves Ok (ofClass c p e m)
   unfolding ofClass
@@ -172,7 +173,7 @@ module _ (p : Process) (e : Event) (m : Machine) (r : Ready m p) (o : Ok m) wher
   sound-caller : Leaves Ok (ofCaller p e m)
   unfolding ofCaller called reported
   sound-caller = (
-    λ _ h _. sound-class (classOf (cond (eqb (e .call) 0x51) (e .d0) (e .call))) (eqb-true (p .signals .pending) 0 (not-false (eqb (p .signals .pending) 0) h)),
+    λ _ h. sound-class (classOf (cond (eqb (e .call) 0x51) (e .d0) (e .call))) (eqb-true (p .signals .pending) 0 (not-false (eqb (p .signals .pending) 0) h)),
     λ _. (λ _. own-leaves m o (taken p) (sane-taken (m .rows) p (r .awake) (r .sane)), λ _. ok-put p m (r .sane) o),
   )
 

@@ -21,7 +21,7 @@ use Rattle.rules.specs.declared.state.Event.{Event}
 use Rattle.rules.specs.declared.calls.OwnCall.{OwnCall}
 use Rattle.rules.specs.declared.calls.OwnCall.the-variants.{GetUser, SetUser, GetGroup, SetGroup, GetPrior, SetPrior, GetProc, Signal, Sleep, Alarm, Pause}
 use Rattle.rules.specs.declared.calls.Call.{Call}
-use Rattle.rules.specs.declared.calls.Call.the-variants.{Own, Lock, Unlock, Kill, Exit, FShell}
+use Rattle.rules.specs.declared.calls.Call.the-variants.{Own, Lock, Unlock, Kill, Exit, FShell, Indirect}
 use Rattle.rules.specs.declared.calls.Class.{Class}
 use Rattle.rules.specs.declared.calls.Class.the-variants.{Modelled, NotModelled, BadCall}
 use Rattle.rules.proofs.Walk.{Leaves}
@@ -50,6 +50,7 @@ isKill Unlock = false
 isKill Kill = true
 isKill Exit = false
 isKill FShell = false
+isKill Indirect = false
 
 abbrev kills : Class → Bool
 kills (Modelled c) = isKill c
@@ -144,6 +145,7 @@ module _ (m : Machine) (n : ℕ) (r : Row) (o : Ok m) (s : Sleeper m n r) where
     fate-call Kill k h = λ _ _ _. let z = Heard.fate-arrives (whole e) m n r o s (e .d2) (e .d3) (byKill e (k, kill-asked e h)) in (λ _. z, λ _. z)
     fate-call Exit k h = λ _. Heard.fate-ends (whole e) m n r o s (p .pid) (λ (f : n ≡ p .pid). d (sym f))
     fate-call FShell k h = λ _ _. fate-born _
+    fate-call Indirect k h = tt
 
     fate-class : (c : Class) → e .kind ≡ 1 → classOf (number e) ≡ c → Leaves (Fated (whole e)) (ofClass c p e m)
     unfolding ofClass
@@ -154,7 +156,7 @@ module _ (m : Machine) (n : ℕ) (r : Row) (o : Ok m) (s : Sleeper m n r) where
     fate-caller : Leaves (Fated (whole e)) (ofCaller p e m)
     unfolding ofCaller called taken takes reported
     fate-caller = (
-      λ k _ _. fate-class _ (eqb-true (e .kind) 1 k) refl,
+      λ k _. fate-class _ (eqb-true (e .kind) 1 k) refl,
       λ _. fate-own (whole e) (either (eqb (e .kind) 3) (taken p) (reported p)) (λ _. (λ _. d, λ _. d), λ _. d),
     )
 

@@ -17,21 +17,22 @@ use Rattle.rules.specs.declared.state.Event.{Event}
 use Rattle.rules.specs.declared.calls.OwnCall.{OwnCall}
 use Rattle.rules.specs.declared.calls.OwnCall.the-variants.{GetUser, SetUser, GetGroup, SetGroup, GetPrior, SetPrior, GetProc, Signal, Sleep, Alarm, Pause}
 use Rattle.rules.specs.declared.calls.Call.{Call}
-use Rattle.rules.specs.declared.calls.Call.the-variants.{Own, Lock, Unlock, Kill, Exit, FShell}
+use Rattle.rules.specs.declared.calls.Call.the-variants.{Own, Lock, Unlock, Kill, Exit, FShell, Indirect}
 use Rattle.rules.specs.declared.calls.Class.{Class}
 use Rattle.rules.specs.declared.calls.Class.the-variants.{Modelled, NotModelled, BadCall}
 
 -- ---- call numbers
 
--- "Modelled calls, with the manual's numbers"; the indirect call stands at the end of this file
+abbrev pub indirect : ℕ
+indirect = 0x51
+
+-- "Modelled calls, with the manual's numbers"
 unfoldable pub modelled : List (ℕ × Call)
 modelled =
     (0x34, Own GetUser) ∷ (0x35, Own SetUser) ∷ (0x36, Own GetGroup) ∷ (0x37, Own SetGroup) ∷ (0x38, Own GetPrior)
     ∷ (0x39, Own SetPrior) ∷ (0x3A, Own GetProc) ∷ (0x3E, Lock) ∷ (0x3F, Unlock) ∷ (0x40, Own Signal) ∷ (0x41, Kill)
-    ∷ (0x42, Own Sleep) ∷ (0x43, Own Alarm) ∷ (0x44, Own Pause) ∷ (0x46, Exit) ∷ (0x48, FShell) ∷ []
-
-abbrev pub indirect : ℕ
-indirect = 0x51
+    ∷ (0x42, Own Sleep) ∷ (0x43, Own Alarm) ∷ (0x44, Own Pause) ∷ (0x46, Exit) ∷ (0x48, FShell) ∷ (indirect, Indirect)
+    ∷ []
 
 -- "Listed: 00h-0Eh, 10h-19h, 1Bh, 1Ch, 20h-29h, 30h-3Ah, 3Eh-49h, 4Bh, 4Ch, 4Eh, 50h-56h", 33h among them
 unfoldable pub listed : ℕ → Bool
@@ -227,6 +228,8 @@ doCall Unlock p e m = doUnlock p e m
 doCall Kill p e m = sendKill p e m
 doCall Exit p e m = doExit p m
 doCall FShell p e m = doFShell p e m
+-- "51h in D0 is badcall": only so is this reached, since `called` puts D0 in the place of 51h
+doCall Indirect p e m = refused badcall
 
 -- "badcall: .. unlisted number", "notmodelled: listed, not modelled"
 unfoldable pub ofClass : Class → Process → Event → Machine → Outcome Machine
@@ -234,8 +237,6 @@ ofClass (Modelled c) p e m = doCall c p e m
 ofClass NotModelled p e m = refused notmodelled
 ofClass BadCall p e m = refused badcall
 
--- "D0 is the call number; 51h in D0 is badcall."
+-- "indirect. D0 is the call number"
 unfoldable pub called : Process → Event → Machine → Outcome Machine
-called p e m =
-    when (eqb (e .call) indirect && eqb (e .d0) indirect) badcall
-    (ofClass (classOf (cond (eqb (e .call) indirect) (e .d0) (e .call))) p e m)
+called p e m = ofClass (classOf (cond (eqb (e .call) indirect) (e .d0) (e .call))) p e m

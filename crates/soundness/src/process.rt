@@ -1,11 +1,11 @@
 // One process of a sound state, and one that is unused.
+use numbers::in_priority;
 use rules::state::*;
 ghost use mathlib.Core.Path.{_≡_};
 ghost use mathlib.Core.Bool.{cond};
 ghost use lib.Dec.{eqb};
 ghost use Rattle.locks.specs.Lists.{zeros};
 ghost use Rattle.rules.specs.State.{forLock};
-ghost use Rattle.rules.specs.Calls.{inPriority};
 ghost use Rattle.rules.specs.Sound.{zeroIds, zeroSignals, zeroRest, zeroProcess, sleepFits, wakeFits, addressed, trapsFit, reactionsFit};
 ghost use Rattle.soundness.specs.Waiting.{soundWaiting};
 
@@ -122,12 +122,6 @@ fn lock_fits(waiting: usize, sleep: u8) -> bool
         return waiting == 1;
     }
     waiting == 0
-}
-
-pub fn in_priority(n: u32) -> bool
-    ensures { λ b. ⌜ b ≡ inPriority n ⌝ }
-{
-    n <= 40 || 4294967256 <= n
 }
 
 pub(crate) fn sound_process(p: Process, waiting: usize) -> bool

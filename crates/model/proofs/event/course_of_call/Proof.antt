@@ -5,16 +5,12 @@ use mathlib.Core.Logic.{⊎-elim}
 use Rattle.rules.specs.Calls.{ofClass}
 use Rattle.rules.specs.Step.{settled}
 use Rattle.model.specs.Course.{follows}
-use Rattle.model.proofs.Events.{Asks, asks-indirect, asks-plain, asks-twice, asks-class}
+use Rattle.model.proofs.Events.{Asks, asks-indirect, asks-plain, asks-class}
 use Rattle.model.proofs.event.course_of_call.Statement.{statement}
 use Rattle.model.proofs.event.course_of_call.Tie as tie
 
 cast-number : tie.Need-cast-number
 cast-number c = search needs
-
-returns : tie.Need-returns
-unfolding follows
-returns c = λ s p. asks-twice s p (c .before .before .before .before .args .e) (c .before .before .if1 .taken) (c .if2 .taken)
 
 class-of-requires : tie.Need-class-of-requires
 class-of-requires c κs = search needs
@@ -31,25 +27,25 @@ enum-told c = search needs
 enum-told-2 : tie.Need-enum-told-2
 enum-told-2 c = search needs
 
+returns : tie.Need-returns
+unfolding follows ofClass settled
+returns c =
+    let e = c .before .before .before .before .before .before .before .args .e in
+    let a : Asks e _ = ⊎-elim (λ w. asks-indirect e (w .0 .taken) (w .1)) (λ w. asks-plain e (w .0 .left) (w .1)) (c .before .before .before .before .before .if1 .came) in
+    λ s p. c .of-call .ensures s p e ∙ asks-class s p e a (sym (c .before .before .c .given .1) ∙ c .before .before .before .before .class-of .ensures)
+
 returns-2 : tie.Need-returns-2
 unfolding follows ofClass settled
 returns-2 c =
-    let e = c .before .before .before .before .before .before .before .args .e in
-    let a : Asks e _ = ⊎-elim (λ w. asks-indirect (w .0 .taken) (w .2 .left) (w .3)) (λ w. asks-plain (w .0 .left) (w .1)) (c .before .before .before .before .before .if1 .came) in
-    λ s p. c .of-call .ensures s p e ∙ asks-class s p e a (sym (c .before .before .c .given .1) ∙ c .before .before .before .before .class-of .ensures)
+    let e = c .before .before .before .before .before .args .e in
+    let a : Asks e _ = ⊎-elim (λ w. asks-indirect e (w .0 .taken) (w .1)) (λ w. asks-plain e (w .0 .left) (w .1)) (c .before .before .before .if1 .came) in
+    λ s p. asks-class s p e a (sym (c .enum-told .given .1) ∙ c .before .before .class-of .ensures)
 
 returns-3 : tie.Need-returns-3
 unfolding follows ofClass settled
 returns-3 c =
     let e = c .before .before .before .before .before .args .e in
-    let a : Asks e _ = ⊎-elim (λ w. asks-indirect (w .0 .taken) (w .2 .left) (w .3)) (λ w. asks-plain (w .0 .left) (w .1)) (c .before .before .before .if1 .came) in
-    λ s p. asks-class s p e a (sym (c .enum-told .given .1) ∙ c .before .before .class-of .ensures)
-
-returns-4 : tie.Need-returns-4
-unfolding follows ofClass settled
-returns-4 c =
-    let e = c .before .before .before .before .before .args .e in
-    let a : Asks e _ = ⊎-elim (λ w. asks-indirect (w .0 .taken) (w .2 .left) (w .3)) (λ w. asks-plain (w .0 .left) (w .1)) (c .before .before .before .if1 .came) in
+    let a : Asks e _ = ⊎-elim (λ w. asks-indirect e (w .0 .taken) (w .1)) (λ w. asks-plain e (w .0 .left) (w .1)) (c .before .before .before .if1 .came) in
     λ s p. asks-class s p e a (sym (c .enum-told2 .given .1) ∙ c .before .before .class-of .ensures)
 
 pub course-of-call-spec : {M : Type 1} → statement M
@@ -57,12 +53,11 @@ course-of-call-spec =
     tie.close
     (tie.spec
     cast-number
-    returns
     class-of-requires
     enum-known-c
     of-call-requires
     enum-told
     enum-told-2
+    returns
     returns-2
-    returns-3
-    returns-4)
+    returns-3)

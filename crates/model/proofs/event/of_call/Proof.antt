@@ -4,6 +4,7 @@ use Rattle.model.proofs.event.of_call.Statement.{statement}
 use Rattle.model.proofs.event.of_call.Tie as tie
 use mathlib.Core.Path.{refl}
 use Rattle.rules.specs.Calls.{doCall}
+use Rattle.rules.specs.Step.{settled}
 use Rattle.model.specs.Course.{ownTurn, follows}
 
 enum-known-c : tie.Need-enum-known-c
@@ -23,6 +24,9 @@ enum-told-4 c = search needs
 
 enum-told-5 : tie.Need-enum-told-5
 enum-told-5 c = search needs
+
+enum-told-6 : tie.Need-enum-told-6
+enum-told-6 c = search needs
 
 returns : tie.Need-returns
 unfolding follows ownTurn doCall
@@ -48,6 +52,10 @@ returns-6 : tie.Need-returns-6
 unfolding follows ownTurn doCall
 returns-6 c = λ s p e. rw (c .enum-told5 .given .1) refl
 
+returns-7 : tie.Need-returns-7
+unfolding follows ownTurn doCall settled
+returns-7 c = λ s p e. rw (c .enum-told6 .given .1) refl
+
 pub of-call-spec : {M : Type 1} → statement M
 of-call-spec =
     tie.close
@@ -58,9 +66,11 @@ of-call-spec =
     enum-told-3
     enum-told-4
     enum-told-5
+    enum-told-6
     returns
     returns-2
     returns-3
     returns-4
     returns-5
-    returns-6)
+    returns-6
+    returns-7)

@@ -1,6 +1,6 @@
--- `soundness::process::in_priority` meets its contract. Assumes nothing.
-use Rattle.soundness.proofs.process.in_priority.Statement.{statement}
-use Rattle.soundness.proofs.process.in_priority.Tie as tie
+-- `numbers::priority::in_priority` meets its contract. Assumes nothing.
+use Rattle.numbers.proofs.priority.in_priority.Statement.{statement}
+use Rattle.numbers.proofs.priority.in_priority.Tie as tie
 use borrow.Author.Tests.{le-leb, lt-leb}
 use Rattle.rules.specs.Calls.{inPriority}
 

@@ -21,11 +21,11 @@ isOut (Modelled c) = false
 isOut NotModelled = false
 isOut BadCall = true
 
--- the numbers that the code tests one by one: the modelled calls, and four more
+-- the numbers that the code tests one by one: the modelled calls, and five more
 abbrev pub named : List ℕ
 named =
-    0x34 ∷ 0x35 ∷ 0x36 ∷ 0x37 ∷ 0x38 ∷ 0x39 ∷ 0x3A ∷ 0x3E ∷ 0x3F ∷ 0x40 ∷ 0x41 ∷ 0x42 ∷ 0x43 ∷ 0x44 ∷ 0x46 ∷ 0x48
-    ∷ 0x45 ∷ 0x47 ∷ 0x49 ∷ 0x4E ∷ []
+    0x34 ∷ 0x35 ∷ 0x36 ∷ 0x37 ∷ 0x38 ∷ 0x39 ∷ 0x3A ∷ 0x3E ∷ 0x3F ∷ 0x40 ∷ 0x41 ∷ 0x42 ∷ 0x43 ∷ 0x44 ∷ 0x46 ∷ 0x48 ∷ 0x51
+    ∷ 0x45 ∷ 0x47 ∷ 0x49 ∷ 0x4E ∷ 0x50 ∷ []
 
 -- one of those, or of the class
 abbrev pub fits : (Class → Bool) → ℕ → Bool
@@ -67,4 +67,4 @@ module _ (n a k : ℕ) (l : a ≤ n) (g : n < a + k) (free : any (eqb n) named �
 pub far : (n : ℕ) → 87 ≤ n → BadCall ≡ classOf n
 unfolding classOf classAmong modelled listed
 far n l =
-    rw (ne-eqb n 52 (λ e. omega arith), ne-eqb n 53 (λ e. omega arith), ne-eqb n 54 (λ e. omega arith), ne-eqb n 55 (λ e. omega arith), ne-eqb n 56 (λ e. omega arith), ne-eqb n 57 (λ e. omega arith), ne-eqb n 58 (λ e. omega arith), ne-eqb n 62 (λ e. omega arith), ne-eqb n 63 (λ e. omega arith), ne-eqb n 64 (λ e. omega arith), ne-eqb n 65 (λ e. omega arith), ne-eqb n 66 (λ e. omega arith), ne-eqb n 67 (λ e. omega arith), ne-eqb n 68 (λ e. omega arith), ne-eqb n 70 (λ e. omega arith), ne-eqb n 72 (λ e. omega arith), ne-eqb n 27 (λ e. omega arith), ne-eqb n 28 (λ e. omega arith), ne-eqb n 75 (λ e. omega arith), ne-eqb n 76 (λ e. omega arith), ne-eqb n 78 (λ e. omega arith), le-leb 0 n (omega arith), le-leb 16 n (omega arith), le-leb 32 n (omega arith), le-leb 48 n (omega arith), le-leb 62 n (omega arith), le-leb 80 n (omega arith), lt-leb n 14 (omega arith), lt-leb n 25 (omega arith), lt-leb n 41 (omega arith), lt-leb n 58 (omega arith), lt-leb n 73 (omega arith), lt-leb n 86 (omega arith))
+    rw (ne-eqb n 52 (λ e. omega arith), ne-eqb n 53 (λ e. omega arith), ne-eqb n 54 (λ e. omega arith), ne-eqb n 55 (λ e. omega arith), ne-eqb n 56 (λ e. omega arith), ne-eqb n 57 (λ e. omega arith), ne-eqb n 58 (λ e. omega arith), ne-eqb n 62 (λ e. omega arith), ne-eqb n 63 (λ e. omega arith), ne-eqb n 64 (λ e. omega arith), ne-eqb n 65 (λ e. omega arith), ne-eqb n 66 (λ e. omega arith), ne-eqb n 67 (λ e. omega arith), ne-eqb n 68 (λ e. omega arith), ne-eqb n 70 (λ e. omega arith), ne-eqb n 72 (λ e. omega arith), ne-eqb n 81 (λ e. omega arith), ne-eqb n 27 (λ e. omega arith), ne-eqb n 28 (λ e. omega arith), ne-eqb n 75 (λ e. omega arith), ne-eqb n 76 (λ e. omega arith), ne-eqb n 78 (λ e. omega arith), le-leb 0 n (omega arith), le-leb 16 n (omega arith), le-leb 32 n (omega arith), le-leb 48 n (omega arith), le-leb 62 n (omega arith), le-leb 80 n (omega arith), lt-leb n 14 (omega arith), lt-leb n 25 (omega arith), lt-leb n 41 (omega arith), lt-leb n 58 (omega arith), lt-leb n 73 (omega arith), lt-leb n 86 (omega arith))

@@ -1,6 +1,6 @@
--- `processes::class::class_of` meets its contract. Assumes nothing.
-use Rattle.processes.proofs.class.class_of.Statement.{statement}
-use Rattle.processes.proofs.class.class_of.Tie as tie
+-- `numbers::class::class_of` meets its contract. Assumes nothing.
+use Rattle.numbers.proofs.class.class_of.Statement.{statement}
+use Rattle.numbers.proofs.class.class_of.Tie as tie
 use mathlib.Core.Path.{_≡_, refl}
 use mathlib.Core.Bool.{false}
 use mathlib.Core.Logic.{⊎-elim, inl, inr}
@@ -8,14 +8,14 @@ use native.Mathlib.Omega.{arith}
 use lib.Dec.{eqb}
 use borrow.Author.Tests.{ne-eqb}
 use Rattle.locks.specs.Lists.{any}
-use Rattle.processes.proofs.Classes.{named, range-in, range-out, far}
+use Rattle.numbers.proofs.Classes.{named, range-in, range-out, far}
 use Rattle.rules.specs.Calls.{classOf, classAmong, modelled, listed}
 
 -- past the keys, the number is none of them
 free : (c : tie.At-match-rest) → any (eqb (c .before .args .n)) named ≡ false
 free c =
     let r = c .match .rest in
-    rw (ne-eqb _ _ (r .0 .0 .0 .0 .0 .0 .0 .0 .0 .0 .0 .0 .0 .0 .0 .0 .1), ne-eqb _ _ (r .0 .0 .0 .0 .0 .0 .0 .0 .0 .0 .0 .0 .0 .0 .0 .1), ne-eqb _ _ (r .0 .0 .0 .0 .0 .0 .0 .0 .0 .0 .0 .0 .0 .0 .1), ne-eqb _ _ (r .0 .0 .0 .0 .0 .0 .0 .0 .0 .0 .0 .0 .0 .1), ne-eqb _ _ (r .0 .0 .0 .0 .0 .0 .0 .0 .0 .0 .0 .0 .1), ne-eqb _ _ (r .0 .0 .0 .0 .0 .0 .0 .0 .0 .0 .0 .1), ne-eqb _ _ (r .0 .0 .0 .0 .0 .0 .0 .0 .0 .0 .1), ne-eqb _ _ (r .0 .0 .0 .0 .0 .0 .0 .0 .0 .1), ne-eqb _ _ (r .0 .0 .0 .0 .0 .0 .0 .0 .1), ne-eqb _ _ (r .0 .0 .0 .0 .0 .0 .0 .1), ne-eqb _ _ (r .0 .0 .0 .0 .0 .0 .1), ne-eqb _ _ (r .0 .0 .0 .0 .0 .1), ne-eqb _ _ (r .0 .0 .0 .0 .1), ne-eqb _ _ (r .0 .0 .0 .1), ne-eqb _ _ (r .0 .0 .1), ne-eqb _ _ (r .0 .1), ne-eqb _ 69 (λ e. r .1 (inl e)), ne-eqb _ 71 (λ e. r .1 (inr (inl e))), ne-eqb _ 73 (λ e. r .1 (inr (inr (inl e)))), ne-eqb _ 78 (λ e. r .1 (inr (inr (inr e)))))
+    rw (ne-eqb _ _ (r .0 .0 .0 .0 .0 .0 .0 .0 .0 .0 .0 .0 .0 .0 .0 .0 .0 .1), ne-eqb _ _ (r .0 .0 .0 .0 .0 .0 .0 .0 .0 .0 .0 .0 .0 .0 .0 .0 .1), ne-eqb _ _ (r .0 .0 .0 .0 .0 .0 .0 .0 .0 .0 .0 .0 .0 .0 .0 .1), ne-eqb _ _ (r .0 .0 .0 .0 .0 .0 .0 .0 .0 .0 .0 .0 .0 .0 .1), ne-eqb _ _ (r .0 .0 .0 .0 .0 .0 .0 .0 .0 .0 .0 .0 .0 .1), ne-eqb _ _ (r .0 .0 .0 .0 .0 .0 .0 .0 .0 .0 .0 .0 .1), ne-eqb _ _ (r .0 .0 .0 .0 .0 .0 .0 .0 .0 .0 .0 .1), ne-eqb _ _ (r .0 .0 .0 .0 .0 .0 .0 .0 .0 .0 .1), ne-eqb _ _ (r .0 .0 .0 .0 .0 .0 .0 .0 .0 .1), ne-eqb _ _ (r .0 .0 .0 .0 .0 .0 .0 .0 .1), ne-eqb _ _ (r .0 .0 .0 .0 .0 .0 .0 .1), ne-eqb _ _ (r .0 .0 .0 .0 .0 .0 .1), ne-eqb _ _ (r .0 .0 .0 .0 .0 .1), ne-eqb _ _ (r .0 .0 .0 .0 .1), ne-eqb _ _ (r .0 .0 .0 .1), ne-eqb _ _ (r .0 .0 .1), ne-eqb _ _ (r .0 .1), ne-eqb _ 69 (λ e. r .1 (inl e)), ne-eqb _ 71 (λ e. r .1 (inr (inl e))), ne-eqb _ 73 (λ e. r .1 (inr (inr (inl e)))), ne-eqb _ 78 (λ e. r .1 (inr (inr (inr (inl e))))), ne-eqb _ 80 (λ e. r .1 (inr (inr (inr (inr e))))))
 
 returns : tie.Need-returns
 unfolding classOf classAmong modelled listed
@@ -83,62 +83,66 @@ returns-16 c = rw (c .match .keys16)
 
 returns-17 : tie.Need-returns-17
 unfolding classOf classAmong modelled listed
-returns-17 c = range-out (c .before .before .before .before .args .n) 15 1 (omega arith) (omega arith) (free (c .before .before .before)) refl
+returns-17 c = rw (c .match .keys17)
 
 returns-18 : tie.Need-returns-18
 unfolding classOf classAmong modelled listed
-returns-18 c = range-out (c .before .before .before .before .before .before .args .n) 26 1 (omega arith) (omega arith) (free (c .before .before .before .before .before)) refl
+returns-18 c = range-out (c .before .before .before .before .args .n) 15 1 (omega arith) (omega arith) (free (c .before .before .before)) refl
 
 returns-19 : tie.Need-returns-19
 unfolding classOf classAmong modelled listed
-returns-19 c = range-out (c .before .before .before .before .before .before .before .before .args .n) 29 3 (omega arith) (omega arith) (free (c .before .before .before .before .before .before .before)) refl
+returns-19 c = range-out (c .before .before .before .before .before .before .args .n) 26 1 (omega arith) (omega arith) (free (c .before .before .before .before .before)) refl
 
 returns-20 : tie.Need-returns-20
 unfolding classOf classAmong modelled listed
-returns-20 c = range-out (c .before .before .before .args .n) 42 6 (omega arith) (omega arith) (free (c .before .before)) refl
+returns-20 c = range-out (c .before .before .before .before .before .before .before .before .args .n) 29 3 (omega arith) (omega arith) (free (c .before .before .before .before .before .before .before)) refl
 
 returns-21 : tie.Need-returns-21
 unfolding classOf classAmong modelled listed
-returns-21 c = range-out (c .before .before .before .before .before .args .n) 52 23 (omega arith) (omega arith) (free (c .before .before .before .before)) refl
+returns-21 c = range-out (c .before .before .before .args .n) 42 6 (omega arith) (omega arith) (free (c .before .before)) refl
 
 returns-22 : tie.Need-returns-22
 unfolding classOf classAmong modelled listed
-returns-22 c = range-out (c .before .before .before .before .before .before .before .args .n) 77 3 (omega arith) (omega arith) (free (c .before .before .before .before .before .before)) refl
+returns-22 c = range-out (c .before .before .before .before .before .args .n) 52 23 (omega arith) (omega arith) (free (c .before .before .before .before)) refl
 
 returns-23 : tie.Need-returns-23
-returns-23 c = far _ (c .if13 .left)
+unfolding classOf classAmong modelled listed
+returns-23 c = range-out (c .before .before .before .before .before .before .before .args .n) 77 3 (omega arith) (omega arith) (free (c .before .before .before .before .before .before)) refl
 
 returns-24 : tie.Need-returns-24
-unfolding classOf classAmong modelled listed
-returns-24 c = range-in (c .before .before .before .args .n) 0 15 (omega arith) (omega arith) (free (c .before .before)) refl
+returns-24 c = far _ (c .if13 .left)
 
 returns-25 : tie.Need-returns-25
 unfolding classOf classAmong modelled listed
-returns-25 c = range-in (c .before .before .before .before .before .args .n) 16 10 (omega arith) (omega arith) (free (c .before .before .before .before)) refl
+returns-25 c = range-in (c .before .before .before .args .n) 0 15 (omega arith) (omega arith) (free (c .before .before)) refl
 
 returns-26 : tie.Need-returns-26
 unfolding classOf classAmong modelled listed
-returns-26 c = range-in (c .before .before .before .before .before .before .before .args .n) 27 2 (omega arith) (omega arith) (free (c .before .before .before .before .before .before)) refl
+returns-26 c = range-in (c .before .before .before .before .before .args .n) 16 10 (omega arith) (omega arith) (free (c .before .before .before .before)) refl
 
 returns-27 : tie.Need-returns-27
 unfolding classOf classAmong modelled listed
-returns-27 c = range-in (c .before .before .before .before .before .before .before .before .args .n) 32 10 (omega arith) (omega arith) (free (c .before .before .before .before .before .before .before)) refl
+returns-27 c = range-in (c .before .before .before .before .before .before .before .args .n) 27 2 (omega arith) (omega arith) (free (c .before .before .before .before .before .before)) refl
 
 returns-28 : tie.Need-returns-28
 unfolding classOf classAmong modelled listed
-returns-28 c = range-in (c .before .before .before .before .args .n) 48 4 (omega arith) (omega arith) (free (c .before .before .before)) refl
+returns-28 c = range-in (c .before .before .before .before .before .before .before .before .args .n) 32 10 (omega arith) (omega arith) (free (c .before .before .before .before .before .before .before)) refl
 
 returns-29 : tie.Need-returns-29
 unfolding classOf classAmong modelled listed
-returns-29 c = ⊎-elim (λ e. rw e) (λ w. ⊎-elim (λ e. rw e) (λ v. ⊎-elim (λ e. rw e) (λ e. rw e) v) w) (c .match .keys17)
+returns-29 c = range-in (c .before .before .before .before .args .n) 48 4 (omega arith) (omega arith) (free (c .before .before .before)) refl
 
 returns-30 : tie.Need-returns-30
 unfolding classOf classAmong modelled listed
-returns-30 c = range-in (c .before .before .before .before .before .before .args .n) 75 2 (omega arith) (omega arith) (free (c .before .before .before .before .before)) refl
+returns-30 c = ⊎-elim (λ e. rw e) (λ w. ⊎-elim (λ e. rw e) (λ v. ⊎-elim (λ e. rw e) (λ u. ⊎-elim (λ e. rw e) (λ e. rw e) u) v) w) (c .match .keys18)
 
 returns-31 : tie.Need-returns-31
 unfolding classOf classAmong modelled listed
-returns-31 c = range-in (c .before .before .before .before .before .before .before .before .args .n) 80 7 (omega arith) (omega arith) (free (c .before .before .before .before .before .before .before)) refl
+returns-31 c = range-in (c .before .before .before .before .before .before .args .n) 75 2 (omega arith) (omega arith) (free (c .before .before .before .before .before)) refl
+
+returns-32 : tie.Need-returns-32
+unfolding classOf classAmong modelled listed
+returns-32 c = range-in (c .before .before .before .before .before .before .before .before .args .n) 80 7 (c .before .if12 .left) (c .if13 .taken) (free (c .before .before .before .before .before .before .before)) refl
 
 pub class-of-spec : {M : Type 1} → statement M
 class-of-spec =
@@ -174,4 +178,5 @@ class-of-spec =
     returns-28
     returns-29
     returns-30
-    returns-31)
+    returns-31
+    returns-32)
