@@ -1,4 +1,4 @@
-// One field of a state, changed by hand, so that a story can hold a state that is not sound.
+// One field of a state, changed or looked at by hand, so that a story can hold a state that no event leads to.
 use crate::reading::number;
 use locks::rows::Row;
 use rules::state::Process;
@@ -98,20 +98,38 @@ fn row(r: Row, field: u32, k: u32, v: u32) -> Row {
     q
 }
 
-// ! field place part value. Of the process at the place: 0 PID, 1 priority, 2 pending, 3 reaction and 4 address of signal part + 1, 5 sleep, 6 seconds,
-// 7 wake, 8 left, 9 alarm, 10 to 15 ids. 20 live, 21 used, 22 next. Of the row at the place: 30 owner, 31 shared, 32 length, 33 the byte at part.
-pub(crate) fn poke(s: State, line: &[u8]) -> State {
+// The fields of a line, after its first character.
+struct Field {
+    field: u32,
+    place: u32,
+    part: u32,
+    value: u32,
+}
+
+fn field_of(line: &[u8]) -> Field {
     let field = number(line, 1, 10);
     let place = number(line, field.next, 10);
     let part = number(line, place.next, 10);
     let value = number(line, part.next, 10);
-    let f = field.value;
-    let v = value.value;
+    Field {
+        field: field.value,
+        place: place.value,
+        part: part.value,
+        value: value.value,
+    }
+}
+
+// ! field place part value. Of the process at the place: 0 PID, 1 priority, 2 pending, 3 reaction and 4 address of signal part + 1, 5 sleep, 6 seconds,
+// 7 wake, 8 left, 9 alarm, 10 to 15 ids. 20 live, 21 used, 22 next. Of the row at the place: 30 owner, 31 shared, 32 length, 33 the byte at part.
+pub(crate) fn poke(s: State, line: &[u8]) -> State {
+    let w = field_of(line);
+    let f = w.field;
+    let v = w.value;
     let mut t = s;
     if f < 20 {
-        let i = (place.value % 16) as usize;
+        let i = (w.place % 16) as usize;
         let p = s.procs[i];
-        t.procs[i] = ids(rest(signals(plain(p, f, v), f, part.value, v), f, v), f, v);
+        t.procs[i] = ids(rest(signals(plain(p, f, v), f, w.part, v), f, v), f, v);
     }
     if f == 20 {
         t.live = v as usize;
@@ -123,11 +141,27 @@ pub(crate) fn poke(s: State, line: &[u8]) -> State {
         t.next = v;
     }
     if 30 <= f {
-        let i = (place.value % 32) as usize;
+        let i = (w.place % 32) as usize;
         let mut u = s.table;
         let r = u.rows[i];
-        u.rows[i] = row(r, f, part.value, v);
+        u.rows[i] = row(r, f, w.part, v);
         t.table = u;
     }
     t
+}
+
+// ? field place part: what the process at the place has there, of the fields that no event shows of a sleeper.
+pub(crate) fn peek(s: State, line: &[u8]) -> u32 {
+    let w = field_of(line);
+    let i = (w.place % 16) as usize;
+    let p = s.procs[i];
+    let f = w.field;
+    match f {
+        5 => p.rest.sleep as u32,
+        6 => p.rest.seconds,
+        7 => p.rest.wake as u32,
+        8 => p.rest.left,
+        9 => p.alarm,
+        _ => 0,
+    }
 }

@@ -1,5 +1,6 @@
 // Plays stories. Each line is written again, an event with what it was answered: a line that begins with a digit is an event, = is the fresh
-// state, ! changes the state by hand, and anything else is a comment.
+// state, ! changes the state by hand, ? looks at it, and anything else is a comment.
+use crate::hand::peek;
 use crate::hand::poke;
 use crate::reading::event;
 use crate::reading::first;
@@ -59,6 +60,11 @@ fn played(s: State, e: Event, other: Answer, by_hand: bool) -> State {
     r.state
 }
 
+fn tell_field(n: u32) {
+    io::write_all(1, b" -> ");
+    io::print_decimal(1, n as u64);
+}
+
 fn play(text: &[u8]) {
     let mut s = fresh();
     let mut t = fresh();
@@ -76,6 +82,8 @@ fn play(text: &[u8]) {
         } else if mark == 33 {
             s = poke(s, line);
             by_hand = true;
+        } else if mark == 63 {
+            tell_field(peek(s, line));
         } else if is_digit(mark) {
             let e = event(line);
             let r = advance(t, e);

@@ -1,8 +1,12 @@
--- The cases of lines hold, by computation. Assumes nothing.
+-- The cases of lines hold, by computation, one `refl` for each. Assumes nothing.
 use mathlib.Core.Path.{refl}
-use Rattle.line.specs.Line.{decimal, numbersOf, refusedLine, lineOf}
+use Rattle.locks.proofs.Named.{Each, each-same}
+use Rattle.line.specs.Line.{decimal, numbersOf, ascii, refusedLine, lineOf}
 use Rattle.line.specs.Cases.{table, LineCases}
 
-pub line-cases : LineCases
+lines-hold : Each (λ c. lineOf (c .0)) (λ c. ascii (c .1)) table
 unfolding decimal numbersOf refusedLine lineOf table
-line-cases = refl
+lines-hold = (refl, (refl, (refl, (refl, (refl, (refl, (refl, (refl, (refl, tt)))))))))
+
+pub line-cases : LineCases
+line-cases = each-same _ _ table lines-hold

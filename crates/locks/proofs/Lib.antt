@@ -3,4 +3,5 @@ pub mod Lists
 pub mod Fewer
 pub mod Loops
 pub mod Tables
+pub mod Named
 pub mod Cases

@@ -1,19 +1,28 @@
--- The worked cases hold: those of events by the rules' own theorem, the marks by computation. Assumes nothing.
-use mathlib.Core.Path.{_≡_, sym, ap, _∙_}
+-- The worked cases hold: those of events by the rules' own theorem, the others by computation, one `refl` for each. Assumes nothing.
+use mathlib.Core.Path.{_≡_, refl, sym, ap, _∙_}
 use mathlib.Core.List.{map, map-append, map-map}
+use Rattle.locks.proofs.Named.{Each, each-same}
+use Rattle.rules.specs.Script as script
 use Rattle.rules.specs.Cases as rules
 use Rattle.rules.proofs.Cases as rules-hold
-use Rattle.papers.specs.Bytes.{number16}
+use Rattle.rules.proofs.Cases.{opened}
+use Rattle.papers.specs.Bytes.{number16, number32}
 use Rattle.papers.specs.Layout.{field, headerFits, paperFits, paperOf, sheetFits, sheetOf}
-use Rattle.marker.specs.Key.{keyPlaces, keyed}
+use Rattle.papers.specs.Events.{sequenceOf, eventAt}
+use Rattle.papers.specs.Answers.{answerBytes, sheetHeader}
+use Rattle.marker.specs.Key.{keyPlaces, keyOf, keyed}
 use Rattle.marker.specs.Mark.{marked}
-use Rattle.marker.specs.Cases.{played, answers, comes, should, table, WorkedCases}
+use Rattle.marker.specs.Cases.{played, answers, comes, should, files, table, WorkedCases}
 
 played-hold : map comes (map played rules.table) ≡ map should (map played rules.table)
 played-hold =
-    map-map comes played rules.table ∙ sym (map-map answers rules.comes rules.table) ∙ ap (map answers) rules-hold.worked-cases
-    ∙ map-map answers rules.should rules.table ∙ sym (map-map should played rules.table)
+    map-map comes played rules.table ∙ sym (map-map answers script.comes rules.table) ∙ ap (map answers) rules-hold.worked-cases
+    ∙ map-map answers script.should rules.table ∙ sym (map-map should played rules.table)
+
+files-hold : Each comes should files
+unfolding opened number16 number32 field headerFits paperFits paperOf sheetFits sheetOf sequenceOf eventAt answerBytes sheetHeader keyPlaces keyOf keyed marked files
+files-hold = (refl, (refl, (refl, (refl, (refl, (refl, (refl, (refl, (refl, (refl, (refl, (refl, (refl, (refl, (refl, (refl, (refl, (refl, (refl, (refl, (refl, (refl, (refl, tt)))))))))))))))))))))))
 
 pub worked-cases : WorkedCases
-unfolding number16 field headerFits paperFits paperOf sheetFits sheetOf keyPlaces keyed marked table
-worked-cases = rw (map-append, map-append, played-hold)
+unfolding table
+worked-cases = rw (map-append, map-append, played-hold, each-same comes should files files-hold) refl

@@ -52,6 +52,12 @@ fresh-requires-4 c κs = search needs
 poke-requires : tie.Need-poke-requires Inv-loop μ-loop
 poke-requires c κs = search needs
 
+peek-requires : tie.Need-peek-requires Inv-loop μ-loop
+peek-requires c κs = search needs
+
+tell-field-requires : tie.Need-tell-field-requires Inv-loop μ-loop
+tell-field-requires c κs = search needs
+
 is-digit-requires : tie.Need-is-digit-requires Inv-loop μ-loop
 is-digit-requires c κs = search needs
 
@@ -80,7 +86,7 @@ loop-again : tie.Need-loop-again Inv-loop μ-loop
 loop-again c = let was = c .before .before .before .before .before .before .before .before .loop .inv in
     ⊎-elim
     (λ w. ap sound (w .4 ∙ w .2 .ensures) ∙ sound-stays .first)
-    (⊎-elim (λ w. ap sound (w .4) ∙ was) (⊎-elim (λ w. ap sound (w .9) ∙ w .5 .ensures .1) (λ w. ap sound (w .5) ∙ was)))
+    (⊎-elim (λ w. ap sound (w .4) ∙ was) (⊎-elim (λ w. ap sound (w .6) ∙ was) (⊎-elim (λ w. ap sound (w .10) ∙ w .6 .ensures .1) (λ w. ap sound (w .6) ∙ was))))
     (c .before .before .if1 .came)
 
 returns : tie.Need-returns Inv-loop μ-loop
@@ -104,6 +110,8 @@ play-spec =
     fresh-requires-3
     fresh-requires-4
     poke-requires
+    peek-requires
+    tell-field-requires
     is-digit-requires
     event-requires
     advance-requires
