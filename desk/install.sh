@@ -17,7 +17,7 @@ need $cc $cc_packages
 need $own_cc $own_cc_packages
 echo "Proving and building what is not there yet: minutes, the first time .."
 prove check mark key
-prove staticlib marker
+archive_is_new || prove staticlib marker
 $cc $strict $link -o "$work/desk" desk/desk.c target/staticlib/libmarker.a
 $own_cc $strict -o "$work/transcribe" desk/transcribe.c
 sed "s|@PREFIX@|$prefix|" desk/brinefeather.pc.in > "$work/brinefeather.pc"

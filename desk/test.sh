@@ -11,7 +11,8 @@ unset PAPER SHEET KEY PREFIX DESTDIR
 root=$PWD
 archive=target/staticlib/libmarker.a
 work=$(mktemp -d)
-trap 'rm -rf "$work"' EXIT
+declare -A running
+trap 'kill "${running[@]}" 2> /dev/null; rm -rf "$work"' EXIT
 
 fail() { echo "FAIL $*" >&2; exit 1; }
 
@@ -21,6 +22,20 @@ last() {
     tail -n 1 "$work/log"
 }
 
+# beside NAME WORD..: runs a command beside the tests that follow; joined NAME waits for it, and shows it as `last` does.
+beside() {
+    local name=$1
+    shift
+    "$@" > "$work/$name.log" 2>&1 &
+    running[$name]=$!
+}
+
+joined() {
+    wait "${running[$1]}" || { cat "$work/$1.log" >&2; fail "$1"; }
+    unset "running[$1]"
+    tail -n 1 "$work/$1.log"
+}
+
 # linked NAME FILE..: compiles a C program that links the archive.
 linked() {
     local name=$1
@@ -28,9 +43,14 @@ linked() {
     $cc $strict $link -o "$work/$name" "$@" $archive
 }
 
+# All that is missing is installed first: two commands beside each other cannot both do that.
 build() {
     need $cc $cc_packages
     need $own_cc $own_cc_packages
+    need cppcheck cppcheck
+    need pkg-config pkg-config
+    need groff groff-base
+    beside transcribe desk/transcribe-test.sh
     quietly rt staticlib marker
     quietly rt check mark key
     linked desk desk/desk.c
@@ -173,7 +193,7 @@ desk() {
 
 samples() {
     local folder
-    last desk/transcribe-test.sh
+    joined transcribe
     examples/test.sh "${RULES:-/work/shared/01-scope.md}" || fail "examples/test.sh"
     for folder in examples/*/; do
         (cd "$folder" && $run "$work/desk" paper ./*.sheet) | sed '$d; s|^./||' | cmp -s - "${folder}marks" || fail "desk on $folder"
@@ -250,7 +270,6 @@ example_is_quoted() {
 
 example_compiles() {
     local flags
-    need pkg-config pkg-config
     flags=$(PKG_CONFIG_PATH="$1/lib/pkgconfig" pkg-config --cflags --libs brinefeather)
     mkdir "$work/elsewhere"
     cp desk/example.c "$work/elsewhere"
@@ -274,7 +293,6 @@ installed_programs_run() {
 # Each page is there, is named as its program is, and groff has nothing to say of it.
 pages_read_well() {
     local page said
-    need groff groff-base
     for page in mark.1 key.1 desk.1 transcribe.1 brinefeather.3; do
         [ -s "$1/man${page##*.}/$page" ] || fail "no manual page $page"
         said=$(groff -ww -z -man -Tutf8 "$1/man${page##*.}/$page" 2>&1)
@@ -324,6 +342,7 @@ documents() {
 }
 
 build
+beside c desk/check-c.sh
 vectors
 plain_model
 programs
@@ -332,5 +351,5 @@ samples
 by_hand
 demo
 installation
-desk/check-c.sh
 documents
+joined c

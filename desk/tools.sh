@@ -50,6 +50,12 @@ quietly() {
     said=$("$@" 2>&1) || { tail -n 20 <<< "$said" >&2; return 1; }
 }
 
+# archive_is_new: the archive is there, and nothing that it is made of has changed since it was made.
+archive_is_new() {
+    local archive=target/staticlib/libmarker.a
+    [ -e $archive ] && [ -z "$(find crates crates.txt "$kit/KIT-ID" -newer $archive -print -quit)" ]
+}
+
 # crate_count [NAME..]: how many crates of crates.txt these are, with all that they stand on; without a name, all.
 crate_count() {
     awk -F: -v names="$*" '
