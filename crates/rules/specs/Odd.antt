@@ -48,7 +48,7 @@ abbrev rowed : List Row → State
 rowed rows = two other rows 3
 
 -- an unshared row of that owner and that length, and a shared one
-abbrev pub rowOfLength : ℕ → ℕ → List ℕ → Row
+abbrev rowOfLength : ℕ → ℕ → List ℕ → Row
 rowOfLength owner n s = record { owner = owner; shared = false; len = n; bytes = padded 16 0 s }
 
 abbrev owned : ℕ → List ℕ → Row
@@ -57,14 +57,14 @@ owned owner s = rowOfLength owner (length s) s
 abbrev sharedRow : ℕ → List ℕ → Row
 sharedRow owner s = record { owner = owner; shared = true; len = length s; bytes = padded 16 0 s }
 
--- process 1 stateOf x, and process 2 waits for it
+-- process 1 holds x, and process 2 waits for it
 abbrev waiting : List Row
 waiting = owned 1 x ∷ owned 2 x ∷ []
 
 -- ---- process 2 with one part changed
 
 -- kind, seconds, last wake, seconds left
-abbrev pub resting : ℕ → ℕ → ℕ → ℕ → Process
+abbrev resting : ℕ → ℕ → ℕ → ℕ → Process
 resting sleep seconds wake left = withRest (record { sleep = sleep; seconds = seconds; wake = wake; left = left }) other
 
 abbrev pub signalled : List ℕ → ℕ → List ℕ → Process → Process
@@ -163,9 +163,9 @@ sounds =
     -- "Nothing else is tested": reactions, alarms and ids
     ∷ "reactions at odd values" is with1 (reacting (2 ∷ 3 ∷ abort ∷ (2 ^ 32 - 1) ∷ 1 ∷ 65536 ∷ 255 ∷ []))
     ∷ "the longest alarm" is with1 (withAlarm (2 ^ 32 - 1) other)
-    ∷ "process 1 with an alarm" is stateOf (withAlarm 2 (first) ∷ []) [] 2
+    ∷ "process 1 with an alarm" is stateOf (withAlarm 2 first ∷ []) [] 2
     ∷ "the highest ids" is with1 (withGroup (ids 65535) (withUser (ids 65535) other))
-    ∷ "process 1 with other ids" is stateOf (withGroup (ids 3) (withUser (ids 4) (first)) ∷ []) [] 2
+    ∷ "process 1 with other ids" is stateOf (withGroup (ids 3) (withUser (ids 4) first) ∷ []) [] 2
     ∷ "process 1 in a pause, woken by time before" is stateOf (withRest (record { sleep = forSignal; seconds = 0; wake = byTime; left = 0 }) first ∷ []) [] 2
     ∷ "process 1 with a trap pending" is stateOf (signalled (first .signals .reactions) 0b1 (only 1 4096) first ∷ []) [] 2
     ∷ "process 1 with a priority" is stateOf (withPriority 7 first ∷ []) [] 2
