@@ -12,7 +12,7 @@ root=$PWD
 archive=target/staticlib/libmarker.a
 work=$(mktemp -d)
 declare -A running
-trap 'kill "${running[@]}" 2> /dev/null; rm -rf "$work"' EXIT
+trap 'kill "${running[@]}" 2> /dev/null || true; rm -rf "$work"' EXIT
 
 fail() { echo "FAIL $*" >&2; exit 1; }
 
