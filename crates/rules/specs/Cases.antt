@@ -648,8 +648,24 @@ further =
     ∷ named 0x3F A 0 257 x gets refusal badcall
     ∷ setPriority A 0xFFFF gets refusal badcall
     ∷ [])
-    -- (t45) process 1 has alarms, sleeps and pauses as any other
-    ∷ story "(t45) process 1 sleeps" (alarm 1 2 gets ok ∷ sleep 1 1 gets sleeping ∷ tick gets moves 0b1 0 ∷ tick gets ok ∷ pause 1 gets sleeping ∷ [])
+    -- (t45) but for signal and exit, process 1 calls as any other does
+    ∷ story "(t45) process 1 locks, sleeps and changes its ids"
+    (setPriority 1 7 gets ok
+    ∷ call 0x37 1 1 3 8 0 gets ok
+    ∷ call 0x36 1 0 1 0 0 gets gives 8 0
+    ∷ lock 1 unshared x gets ok
+    ∷ lock A unshared x gets sleeping
+    ∷ unlock 1 x gets moves 0b10 0
+    ∷ lock 1 shared x gets sleeping
+    ∷ unlock A x gets moves 0b1 0
+    ∷ alarm 1 2 gets ok
+    ∷ sleep 1 1 gets sleeping
+    ∷ tick gets moves 0b1 0
+    ∷ tick gets ok
+    ∷ becomes 1 5 gets ok
+    ∷ setPriority 1 (2 ^ 32 - 1) gets refusal priv
+    ∷ pause 1 gets sleeping
+    ∷ [])
     -- (t46) "When rows go, every row that becomes held wakes its owner in the same step", also where a trap takes one
     ∷ story "(t46) a trap takes a waiter out of the way of one behind"
     (onSignal B 4 512 gets gives 0 1
