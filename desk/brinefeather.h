@@ -5,17 +5,31 @@
  * Link with libbrinefeather.a, for x86-64: -lbrinefeather, or by pkg-config brinefeather. (In the repository it is
  * target/staticlib/libmarker.a; `make install` installs it.) Both routines keep nothing between calls, allocate
  * nothing, and may be called from any thread that has 64 KB of stack (44 KB were the most that was measured). What the
- * events mean and what is answered to them, document 01 says (01-scope.md). All numbers in the files are big-endian.
- * A file is refused, never corrected, when its layout is off:
+ * events mean and what is answered to them, document 01 says (01-scope.md).
  *
- *   paper   12 bytes of header as six 16-bit numbers: version 1; events 0..1000; where the events start, 12;
- *           sequences 0..64; where the sequences start, 12 + 20 x events; the file's length,
- *           12 + 20 x events + 16 x sequences. Then the events, then the sequences, and nothing more.
- *           event, 20 bytes: kind, call, caller (2), D0 (2), D1 (2), D2 (2), D3 (4), A0 (4), sequence number
- *           (2; 0 for none, at most the number of sequences). A sequence is 16 bytes.
- *   sheet   6 bytes of header as three 16-bit numbers: version 1; answers 0..1000; where they start, 6. Then the
- *           answers, 16 bytes each, and nothing more: kind, number, woken (2), ended (2), zero (2), D3 (4), A0 (4).
- *   key     a sheet with the right answer to each event of a paper, in order.
+ * A paper is 12 bytes of header, then its events, 20 bytes each, then its sequences, 16 bytes each, and nothing more.
+ * A sheet is 6 bytes of header, then its answers, 16 bytes each, and nothing more. A key is a sheet with the right
+ * answer to each event of a paper, in order. All numbers are big-endian. Sizes in bytes, where not 1:
+ *
+ *   event    kind, call, caller (2), D0 (2), D1 (2), D2 (2), D3 (4), A0 (4), sequence number (2)
+ *   answer   kind, number, woken (2), ended (2), zero (2), D3 (4), A0 (4)
+ *
+ * These fields, of 16 bits each, have a rule. A file that breaks one is refused, never corrected, and the refusal tells
+ * the offset of the first field, in this order, that breaks its rule. A file too short for its header is refused too:
+ * its offset is the file's length, 0 to 11 for a paper and 0 to 5 for a sheet. e, s and a are what the counts say.
+ *
+ *   paper    offset         field                         rule
+ *            0              version                       1
+ *            2              event count, e                0 to 1000
+ *            4              where the events start        12
+ *            6              sequence count, s             0 to 64
+ *            8              where the sequences start     12 + 20e
+ *            10             length                        12 + 20e + 16s, and the file is as long as that
+ *            12 + 20i + 18  sequence number of event i    0 (none) to s; i is from 0 to e - 1
+ *
+ *   sheet    0              version                       1
+ *            2              answer count, a               0 to 1000, and the file is 6 + 16a bytes long
+ *            4              where the answers start       6
  */
 #ifndef BRINEFEATHER_H
 #define BRINEFEATHER_H
@@ -27,11 +41,19 @@
 extern "C" {
 #endif
 
+/*
+ * It rises with each release that adds a routine or changes what one returns. Compile again what was compiled with
+ * another: the functions below are compiled into your program, and those of version 1 know no offsets.
+ */
+#define BRINEFEATHER_VERSION 2
+
+/* The refusals of files. Those below 15 are of events: a sheet and a key have them, the routines do not return them. */
 enum brinefeather_refusal {
-    BRINEFEATHER_BADPAPER = 15, /* the paper's layout is off */
+    BRINEFEATHER_BADPAPER = 15, /* the paper's layout is off; has an offset */
     BRINEFEATHER_BLANK = 16,    /* the paper is sound in all else, but has no events */
-    BRINEFEATHER_BADSHEET = 17, /* the sheet's layout is off */
-    BRINEFEATHER_NOROOM = 18    /* the key buffer is shorter than the key */
+    BRINEFEATHER_BADSHEET = 17, /* the sheet's layout is off; has an offset */
+    BRINEFEATHER_NOROOM = 18,   /* the key buffer is shorter than the key */
+    BRINEFEATHER_REFUSALS = 18  /* they are numbered from 1 to this */
 };
 
 /* Lengths of the longest legal files. To tell a longer file from one of these, read one byte more. */
@@ -49,16 +71,22 @@ enum {
  *   missing   total less the sheet's answers, or 0
  *   surplus   the sheet's answers less total, or 0
  *
- * or else a refusal number alone: the first that applies of badpaper, blank, badsheet. brinefeather_refused tells
- * which it is. Neither file is written. A null pointer with length 0 is an empty file (and so refused); each pointer
+ * or else a refusal, the first that applies of badpaper, blank, badsheet: blank is its number alone, the other two are
+ * their number plus 65,536 times the offset of the field that is broken. Do not compare what is returned with a number:
+ * brinefeather_refused tells whether it is a refusal and which, brinefeather_offset where the file is broken.
+ *
+ * Neither file is written. A null pointer with length 0 is an empty file (and so refused, with offset 0); each pointer
  * must otherwise lead to at least as many readable bytes as its length says. The two may overlap.
  */
 uint64_t brinefeather_mark(const uint8_t *paper, size_t paper_len, const uint8_t *sheet, size_t sheet_len);
 
 /*
  * Writes the key of a paper into a buffer of key_len bytes. Returns the key's length, 6 + 16 x events (at least 22),
- * having written exactly that many bytes from the start of the buffer and none after; or else a refusal number alone,
- * having written no byte: the first that applies of badpaper, blank, noroom. brinefeather_refused tells which it is.
+ * having written exactly that many bytes from the start of the buffer and none after; or else a refusal, having written
+ * no byte, the first that applies of badpaper, blank, noroom: badpaper is its number plus 65,536 times the offset, the
+ * same as brinefeather_mark returns for that paper, the other two are their number alone. brinefeather_refused and
+ * brinefeather_offset take it apart.
+ *
  * The paper is not written. A null pointer with length 0 is an empty paper, or a buffer with no room. The buffer must
  * not share bytes with the paper, and is the call's alone while it runs. A buffer of BRINEFEATHER_LONGEST_KEY bytes
  * has room for every key.
@@ -72,12 +100,36 @@ static inline size_t brinefeather_key_length(size_t events)
 }
 
 /*
- * For what either routine returned: the refusal number, or 0 when it was not refused. The two never meet: a total is
- * at least 1, so a mark is at least 2^48, and a key's length is at least 22.
+ * For what any routine returned: the refusal number alone, without its offset, or 0 when it was not refused. The two
+ * never meet. A refusal is less than 28 and never 22, plus 65,536 times its offset, and less than 2^48. What is not
+ * refused is at least 2^48, as a mark is (its total is at least 1), or from 28 to 65,535 or 22, as a key's length is.
  */
 static inline unsigned brinefeather_refused(uint64_t n)
 {
-    return n < 22 ? (unsigned)n : 0;
+    const unsigned low = (unsigned)n & 0xFFFF;
+
+    if (n >> 48)
+        return 0;
+    return n >> 16 || (low < 28 && low != 22) ? low : 0;
+}
+
+/*
+ * For the same: the offset of the first field that breaks its rule, or the length of a file too short for its header.
+ * Badpaper and badsheet have an offset, which may be 0. For other refusals, and when it was not refused, it is 0.
+ */
+static inline unsigned brinefeather_offset(uint64_t n)
+{
+    return brinefeather_refused(n) ? (unsigned)(n >> 16) : 0;
+}
+
+/* The name of a refusal number, as in document 01: "badpaper" for 15. "unknown" for a number that is none. */
+static inline const char *brinefeather_refusal_name(unsigned number)
+{
+    static const char *const names[] = {"unknown", "badstate", "badcaller", "asleep", "trap", "badcall", "notmodelled",
+                                        "priv", "noproc", "nomemory", "held", "locked", "deadlock", "lcktable",
+                                        "notlocked", "badpaper", "blank", "badsheet", "noroom"};
+
+    return names[number <= BRINEFEATHER_REFUSALS ? number : 0];
 }
 
 /* For what brinefeather_mark returned and brinefeather_refused did not take. */

@@ -66,7 +66,8 @@ sanitizers() {
     leaks=1 clean 0 "$work/plain-test"
 }
 
-# wrong CHANGE: with this change of the plain routines, in the archive's place or in their own, compare tells, and ends well.
+# wrong CHANGE: with this change of the plain routines, in the archive's place or in their own, compare tells, by its first
+# paper or by the files that it has beside papers, and ends well.
 wrong() {
     local side
     sed "$1" desk/plain.c > "$work/wrong.c"
@@ -74,7 +75,7 @@ wrong() {
     $hasty -o "$work/wrong-plain" "$work"/{wrong.c,compare.o,generate.o,observe.o,archive.o}
     for side in archive plain; do
         clean 1 "$work/wrong-$side" 1 1
-        grep -q '^DIFFERENT paper 0 ' "$work/said" || { echo "FAIL compare says nothing of this, in the $side side: $1" >&2; exit 1; }
+        grep -q '^DIFFERENT paper ' "$work/said" || { echo "FAIL compare says nothing of this, in the $side side: $1" >&2; exit 1; }
     done
 }
 
@@ -86,6 +87,20 @@ wrong_models() {
     wrong 's/return R_NOROOM/return 21/'
     wrong 's/return SHEET_HEADER .*/return UINT64_MAX;/'
     wrong 's/an->number = .*/an->number = 200;/'
+    wrong_offsets
+}
+
+# The last broken field told, in a header and of the events; the field behind it; a short file told at 0; a sheet of
+# wrong length told at 4; the offset dropped.
+wrong_offsets() {
+    wrong 's/(size_t i = 0; i < fields; i++)/(size_t i = fields; i-- > 0;)/'
+    wrong 's/(size_t i = 0; i < p->events; i++)/(size_t i = p->events; i-- > 0;)/'
+    wrong 's/refused_at(number, 2 \* i)/refused_at(number, 2 * (i + 1))/'
+    wrong 's/EVENT \* i + SEQUENCE_NUMBER/EVENT * (i + 1) + SEQUENCE_NUMBER/'
+    wrong 's/refused_at(R_BADPAPER, len)/refused_at(R_BADPAPER, 0)/'
+    wrong 's/refused_at(R_BADSHEET, len)/refused_at(R_BADSHEET, 0)/'
+    wrong 's/ && whole;/;/; s/== SHEET_HEADER;/== SHEET_HEADER \&\& whole;/'
+    wrong 's/return number + 65536 .*/return number;/'
 }
 
 warnings

@@ -2,7 +2,7 @@
  * Plays generated papers, their sheets and damaged files through the archive's two routines and through the plain ones,
  * and compares every byte. Usage: compare PAPERS SEED. Fails too when an answer, refusal, call, edge or situation that
  * can be reached was not: 600 papers reach all of them. Either maker may be wrong, so nothing that a routine returns is
- * taken for a length here.
+ * taken for a length here, nor for an offset unless the file is long enough.
  */
 #include <inttypes.h>
 #include <stdio.h>
@@ -20,6 +20,7 @@ enum { PAPER_HEADER = 12, EVENT = 20, SHEET_HEADER = 6, ANSWER = 16, MOST = 1000
 enum { MOST_SEQUENCES = 64, OVER = 65536, STORE = BRINEFEATHER_LONGEST_PAPER + OVER + 24 };
 enum { GUARD = 64, BEHIND = BRINEFEATHER_LONGEST_KEY }; /* around a buffer; a whole key fits behind it */
 enum { SHEETS = 2, DAMAGED_PAPERS = 6 }; /* of each paper; a damaged sheet comes with each */
+enum { OWN_LENGTH = 1 }; /* in a list of fields, which all have even offsets */
 
 struct file {
     uint8_t bytes[STORE];
@@ -27,7 +28,7 @@ struct file {
 };
 
 static const char *kind; /* of the paper that is played */
-static uint64_t refusals[19], papers, events_played, damaged, different;
+static uint64_t refusals[BRINEFEATHER_REFUSALS + 1], papers, events_played, damaged, different;
 
 /* ---- chance and files ---- */
 
@@ -126,8 +127,10 @@ static void take_back(const char *what, uint8_t *bytes, const struct file *f)
 
 static void count_refusal(uint64_t n)
 {
-    if (n < COUNT(refusals))
-        refusals[n]++;
+    const unsigned number = brinefeather_refused(n);
+
+    if (number < COUNT(refusals))
+        refusals[number]++;
 }
 
 static void saw(enum observe_situation situation, int condition)
@@ -141,18 +144,133 @@ static int bad_sheet(const struct file *sheet)
 {
     static const uint8_t good[PAPER_HEADER + EVENT] = {0, 1, 0, 1, 0, 12, 0, 0, 0, 32, 0, 32, 2};
 
-    return plain_mark(good, sizeof good, sheet->bytes, sheet->len) == R_BADSHEET;
+    return brinefeather_refused(plain_mark(good, sizeof good, sheet->bytes, sheet->len)) == R_BADSHEET;
 }
 
-static void see_mark(uint64_t mark, const struct file *sheet)
+/* ---- where files are broken ---- */
+
+static size_t length_by_counts(const struct file *paper)
+{
+    return PAPER_HEADER + EVENT * event_count(paper) + SEQ * get16(paper->bytes + 6);
+}
+
+/* Makes the field there keep its rule, if the rest of the file says how: of a count it does not. */
+static int mend(struct file *paper, size_t at)
+{
+    const size_t length = length_by_counts(paper);
+
+    if (at == 2 || at == 6 || at > paper->len - 2)
+        return 0;
+    switch (at) {
+    case 0: put16(paper->bytes, 1); break;
+    case 4: put16(paper->bytes + 4, PAPER_HEADER); break;
+    case 8: put16(paper->bytes + 8, PAPER_HEADER + EVENT * event_count(paper)); break;
+    case 10: put16(paper->bytes + 10, length); paper->len = paper->len > length ? length : paper->len; break;
+    default: put16(paper->bytes + at, 0); break;
+    }
+    return 1;
+}
+
+/* Is another field broken, behind the one that was told? Then that one is told when the first has been mended. */
+static void see_two_broken(const struct file *paper, size_t at)
+{
+    static struct file mended;
+    uint64_t n;
+    size_t next;
+
+    copy(&mended, paper);
+    if (!mend(&mended, at))
+        return;
+    n = plain_mark(mended.bytes, mended.len, NULL, 0);
+    next = brinefeather_offset(n);
+    if (brinefeather_refused(n) != R_BADPAPER || next <= at)
+        return;
+    saw(OBSERVE_PAPER_TWO, next < PAPER_HEADER);
+    saw(OBSERVE_PAPER_VERSION_LENGTH, at == 0 && next == 10);
+    saw(OBSERVE_PAPER_HEADER_EVENT, at < 10 && next >= PAPER_HEADER);
+    saw(OBSERVE_PAPER_LENGTH_EVENT, at == 10 && next >= PAPER_HEADER);
+    saw(OBSERVE_PAPER_TWO_EVENTS, at >= PAPER_HEADER);
+}
+
+/* Told at 10. */
+static void see_broken_length(const struct file *paper)
+{
+    const size_t length = length_by_counts(paper), field = get16(paper->bytes + 10);
+
+    saw(OBSERVE_PAPER_LENGTH, field != length && paper->len == length);
+    saw(OBSERVE_PAPER_COUNTS, field != length && paper->len == field);
+    saw(OBSERVE_PAPER_CUT, field == length && paper->len < length);
+    saw(OBSERVE_PAPER_LONG, field == length && paper->len > length);
+    saw(OBSERVE_PAPER_OVER, field == length && paper->len == length + OVER);
+}
+
+static void see_broken_event(const struct file *paper, size_t at)
+{
+    const size_t events = event_count(paper);
+
+    saw(OBSERVE_PAPER_EVENT, at < PAPER_HEADER + EVENT * events);
+    saw(OBSERVE_PAPER_LAST_EVENT, events > 1 && at + 2 == PAPER_HEADER + EVENT * events);
+    saw(OBSERVE_PAPER_EVENT_1000, events == MOST && at == 20010);
+}
+
+static void see_broken_paper(const struct file *paper, size_t at)
+{
+    if (paper->len < PAPER_HEADER) {
+        saw(OBSERVE_PAPER_SHORT, at == paper->len);
+        saw(OBSERVE_PAPER_SHORT_VERSION, at == paper->len && at > 1 && get16(paper->bytes) != 1);
+        return;
+    }
+    saw(OBSERVE_PAPER_VERSION, at == 0);
+    saw(OBSERVE_PAPER_EVENTS, at == 2);
+    saw(OBSERVE_PAPER_EVENT_OFFSET, at == 4);
+    saw(OBSERVE_PAPER_SEQUENCES, at == 6);
+    saw(OBSERVE_PAPER_SEQUENCE_OFFSET, at == 8);
+    if (at == 10)
+        see_broken_length(paper);
+    if (at >= PAPER_HEADER)
+        see_broken_event(paper, at);
+    see_two_broken(paper, at);
+}
+
+static void see_broken_sheet(const struct file *sheet, size_t at)
+{
+    const size_t answers = get16(sheet->bytes + 2), length = SHEET_HEADER + ANSWER * answers;
+    const int other_length = sheet->len != length, other_offset = get16(sheet->bytes + 4) != SHEET_HEADER;
+
+    if (sheet->len < SHEET_HEADER) {
+        saw(OBSERVE_SHEET_SHORT, at == sheet->len);
+        saw(OBSERVE_SHEET_SHORT_VERSION, at == sheet->len && at > 1 && get16(sheet->bytes) != 1);
+        return;
+    }
+    saw(OBSERVE_SHEET_VERSION, at == 0);
+    saw(OBSERVE_SHEET_RANGE, at == 2 && answers > MOST);
+    saw(OBSERVE_SHEET_RANGE_ONLY, at == 2 && answers > MOST && !other_length);
+    saw(OBSERVE_SHEET_CUT, at == 2 && answers <= MOST && sheet->len < length);
+    saw(OBSERVE_SHEET_LONG, at == 2 && answers <= MOST && sheet->len > length);
+    saw(OBSERVE_SHEET_OVER, at == 2 && answers <= MOST && sheet->len == length + OVER);
+    saw(OBSERVE_SHEET_OFFSET, at == 4);
+    saw(OBSERVE_SHEET_VERSION_LENGTH, at == 0 && other_length);
+    saw(OBSERVE_SHEET_VERSION_OFFSET, at == 0 && other_offset);
+    saw(OBSERVE_SHEET_LENGTH_OFFSET, at == 2 && answers <= MOST && other_offset);
+}
+
+static void see_refusal(uint64_t n, const struct file *paper, const struct file *sheet)
+{
+    const unsigned number = brinefeather_refused(n);
+
+    saw(OBSERVE_BAD_BOTH, number == R_BADPAPER && bad_sheet(sheet));
+    saw(OBSERVE_BLANK_SHEET, number == R_BLANK && bad_sheet(sheet));
+    if (number == R_BADPAPER)
+        see_broken_paper(paper, brinefeather_offset(n));
+    if (number == R_BADSHEET)
+        see_broken_sheet(sheet, brinefeather_offset(n));
+}
+
+static void see_mark(uint64_t mark)
 {
     const unsigned total = brinefeather_total(mark), right = brinefeather_right(mark);
     const unsigned missing = brinefeather_missing(mark), surplus = brinefeather_surplus(mark);
 
-    saw(OBSERVE_BAD_BOTH, mark == R_BADPAPER && bad_sheet(sheet));
-    saw(OBSERVE_BLANK_SHEET, mark == R_BLANK && bad_sheet(sheet));
-    if (brinefeather_refused(mark))
-        return;
     saw(OBSERVE_PERFECT, brinefeather_perfect(mark));
     saw(OBSERVE_NONE_RIGHT, right == 0 && missing < total);
     saw(OBSERVE_MISSING, missing != 0);
@@ -172,7 +290,10 @@ static uint64_t compare_marks(const char *what, const struct file *paper, const 
     take_back("paper written", p, paper);
     take_back("sheet written", s, sheet);
     count_refusal(plains);
-    see_mark(plains, sheet);
+    if (brinefeather_refused(plains))
+        see_refusal(plains, paper, sheet);
+    else
+        see_mark(plains);
     return ours;
 }
 
@@ -229,8 +350,10 @@ static void compare_bytes(const char *what, const struct file *paper, const uint
 
 static void see_key(uint64_t length, size_t room)
 {
-    saw(OBSERVE_BAD_ROOM, length == R_BADPAPER && room < brinefeather_key_length(1));
-    saw(OBSERVE_BLANK_ROOM, length == R_BLANK && room < brinefeather_key_length(1));
+    const int no_room = room < brinefeather_key_length(1);
+
+    saw(OBSERVE_BAD_ROOM, brinefeather_refused(length) == R_BADPAPER && no_room);
+    saw(OBSERVE_BLANK_ROOM, brinefeather_refused(length) == R_BLANK && no_room);
 }
 
 /* The key is all that the plain routine leaves in its buffer. */
@@ -297,21 +420,34 @@ static void damage_header(struct file *f, size_t header)
         put16(at, get16(at) + (one_in(2) ? 1u : 65535u));
 }
 
+/* A number of the header, or the sequence number of an event, often that of the last. */
+static void damage_number(struct file *paper, size_t events)
+{
+    uint8_t *event = paper->bytes + PAPER_HEADER + EVENT * (one_in(4) ? events - 1 : below(events));
+
+    switch (below(3)) {
+    case 0: damage_header(paper, PAPER_HEADER); break;
+    case 1: put16(event + 18, get16(paper->bytes + 6) + below(3)); break;
+    default: put16(event + 18, one_in(2) ? 65535 : draw()); break;
+    }
+}
+
+static void flip_events(struct file *paper, size_t events)
+{
+    for (unsigned n = 1u + below(20); n; n--)
+        flip_bit(paper->bytes + PAPER_HEADER, EVENT * events);
+}
+
 static void damage_paper(struct file *paper, size_t events)
 {
-    uint8_t *event = paper->bytes + PAPER_HEADER + EVENT * below(events);
-
     switch (below(6)) {
-    case 0: damage_header(paper, PAPER_HEADER); break;
-    case 1: damage_length(paper); break;
-    case 2: put16(event + 18, get16(paper->bytes + 6) + below(3)); break;
-    case 3: put16(event + 18, one_in(2) ? 65535 : draw()); break;
-    case 4: keep_events(paper, one_in(4) ? 0 : below(events)); break; /* fewer events, or blank */
-    default:
-        for (unsigned n = 1u + below(20); n; n--) /* other events, seldom another layout */
-            flip_bit(paper->bytes + PAPER_HEADER, EVENT * events);
-        break;
+    case 0: keep_events(paper, one_in(4) ? 0 : below(events)); return; /* fewer events, or blank */
+    case 1: flip_events(paper, events); return; /* other events, seldom another layout */
+    case 2: damage_length(paper); break;
+    default: damage_number(paper, events); break;
     }
+    if (one_in(3))
+        damage_number(paper, events);
 }
 
 static void damage_sheet(struct file *sheet)
@@ -320,6 +456,8 @@ static void damage_sheet(struct file *sheet)
         damage_header(sheet, SHEET_HEADER);
     else
         damage_length(sheet);
+    if (one_in(3))
+        damage_header(sheet, SHEET_HEADER);
 }
 
 static void damage_answers(struct file *sheet, size_t answers)
@@ -405,6 +543,8 @@ static void play_paper(enum generate_theme theme, size_t events)
     events_played += events;
 }
 
+/* ---- files made by hand ---- */
+
 /* Events and sequences of zeros. */
 static void lay_out(struct file *paper, size_t events, size_t sequences)
 {
@@ -422,19 +562,96 @@ static void play_limits(void)
 {
     static const struct {
         const char *what;
-        size_t events, sequences;
-    } limits[] = {{"1,000 events and 64 sequences", MOST, MOST_SEQUENCES}, {"1,001 events", MOST + 1, 0},
-                  {"65 sequences", 1, MOST_SEQUENCES + 1}};
+        size_t events, sequences, last_names;
+    } limits[] = {{"1,000 events and 64 sequences", MOST, MOST_SEQUENCES, MOST_SEQUENCES},
+                  {"1,001 events", MOST + 1, 0, 0}, {"65 sequences", 1, MOST_SEQUENCES + 1, 0},
+                  {"sequence 65 of 64 in event 1,000", MOST, MOST_SEQUENCES, MOST_SEQUENCES + 1}};
     static struct file paper, sheet, none;
 
     kind = "limits";
     put_sheet_header(&sheet, 0);
     for (size_t i = 0; i < COUNT(limits); i++) {
         lay_out(&paper, limits[i].events, limits[i].sequences);
+        put16(paper.bytes + PAPER_HEADER + EVENT * limits[i].events - 2, limits[i].last_names);
         compare_keys(limits[i].what, &paper, brinefeather_key_length(limits[i].events), &none);
         compare_marks(limits[i].what, &paper, &sheet);
     }
 }
+
+/* Breaks the field there, or the file's own length. */
+static void break_field(struct file *f, size_t at)
+{
+    if (at == OWN_LENGTH)
+        f->len++;
+    else
+        put16(f->bytes + at, 65535);
+}
+
+/* Each field of a paper broken, and each two. */
+static void play_broken_papers(const struct file *sheet)
+{
+    static const size_t fields[] = {0, 2, 4, 6, 8, 10, OWN_LENGTH, 30, 50, 70};
+    static struct file paper, none;
+
+    for (size_t i = 0; i < COUNT(fields) * COUNT(fields); i++) {
+        lay_out(&paper, 3, 2);
+        break_field(&paper, fields[i / COUNT(fields)]);
+        break_field(&paper, fields[i % COUNT(fields)]);
+        compare_keys("fields of a paper", &paper, brinefeather_key_length(3), &none);
+        compare_marks("fields of a paper", &paper, sheet);
+    }
+}
+
+/* Each field of a sheet broken, and each two. */
+static void play_broken_sheets(const struct file *paper)
+{
+    static const size_t fields[] = {0, 2, OWN_LENGTH, 4};
+    static struct file sheet;
+
+    for (size_t i = 0; i < COUNT(fields) * COUNT(fields); i++) {
+        put_sheet_header(&sheet, 1);
+        break_field(&sheet, fields[i / COUNT(fields)]);
+        break_field(&sheet, fields[i % COUNT(fields)]);
+        compare_marks("fields of a sheet", paper, &sheet);
+    }
+}
+
+static void play_short_papers(struct file *paper, const struct file *sheet)
+{
+    static struct file none;
+
+    for (paper->len = 0; paper->len < PAPER_HEADER; paper->len++) {
+        compare_keys("short paper", paper, brinefeather_key_length(1), &none);
+        compare_marks("short paper", paper, sheet);
+    }
+}
+
+static void play_short_sheets(const struct file *paper, struct file *sheet)
+{
+    for (sheet->len = 0; sheet->len < SHEET_HEADER; sheet->len++)
+        compare_marks("short sheet", paper, sheet);
+}
+
+/* Short files have every length below a header's. First they begin as they should, then nothing is right there. */
+static void play_broken_files(void)
+{
+    static struct file paper, sheet, cut;
+
+    kind = "broken files";
+    lay_out(&paper, 1, 0);
+    put_sheet_header(&sheet, 0);
+    play_broken_papers(&sheet);
+    play_broken_sheets(&paper);
+    copy(&cut, &paper);
+    play_short_papers(&cut, &sheet);
+    copy(&cut, &sheet);
+    play_short_sheets(&paper, &cut);
+    memset(cut.bytes, 255, PAPER_HEADER);
+    play_short_papers(&cut, &sheet);
+    play_short_sheets(&paper, &cut);
+}
+
+/* ---- the whole ---- */
 
 /* The first paper of each theme has 1,000 events, the second 1; most others have 20 to 400, fewer the likelier. */
 static size_t draw_length(void)
@@ -451,14 +668,12 @@ static size_t draw_length(void)
 /* Returns how many of the files' refusals were not reached. */
 static unsigned print_refusals(void)
 {
-    static const char *const name[] = {"badpaper", "blank", "badsheet", "noroom"};
     unsigned missed = 0;
 
-    for (size_t i = 0; i < COUNT(name); i++) {
-        uint64_t n = refusals[R_BADPAPER + i];
-
-        printf("%10" PRIu64 "  refusal %zu %s%s\n", n, R_BADPAPER + i, name[i], n ? "" : "   NOT REACHED");
-        missed += n == 0;
+    for (unsigned i = BRINEFEATHER_BADPAPER; i <= BRINEFEATHER_NOROOM; i++) {
+        printf("%10" PRIu64 "  refusal %u %s%s\n", refusals[i], i, brinefeather_refusal_name(i),
+               refusals[i] ? "" : "   NOT REACHED");
+        missed += refusals[i] == 0;
     }
     return missed;
 }
@@ -477,6 +692,7 @@ int main(int argc, char **argv)
     for (; papers < wanted; papers++)
         play_paper((enum generate_theme)(papers % GENERATE_THEMES), draw_length());
     play_limits();
+    play_broken_files();
     missed = observe_print();
     missed += print_refusals();
     printf("compare: %" PRIu64 " papers, %" PRIu64 " events, %" PRIu64 " damaged files, %" PRIu64 " different, "

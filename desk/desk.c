@@ -3,6 +3,7 @@
 #include <stdio.h>
 #include <string.h>
 #include "brinefeather.h"
+#include "place.h"
 
 enum { ALL_MARKED = 0, SHEET_REFUSED = 1, PAPER_REFUSED = 2, WRONG_USAGE = 64, NOT_PRINTED = 74 };
 
@@ -43,27 +44,25 @@ static size_t read_file(const char *name, uint8_t *bytes, size_t room)
     return len;
 }
 
-static const char *in_words(unsigned refusal)
+/* What mark prints of it, and then in words. */
+static void print_refusal(const char *name, uint64_t refusal, const uint8_t *file, size_t len)
 {
-    switch (refusal) {
-    case BRINEFEATHER_BADPAPER: return "badpaper: the paper's layout is off";
-    case BRINEFEATHER_BLANK: return "blank: the paper has no events";
-    case BRINEFEATHER_BADSHEET: return "badsheet: the sheet's layout is off";
-    default: return "no refusal of a mark";
-    }
+    const unsigned number = brinefeather_refused(refusal);
+
+    printf("%s: refused %u", name, number);
+    if (place_is_told(number))
+        printf(" %u", brinefeather_offset(refusal));
+    fputs(" (", stdout);
+    place_print(stdout, refusal, file, len);
+    puts(")");
 }
 
-static void print_refusal(const char *name, unsigned refusal)
+/* 0 for a paper that is not refused: then the empty sheet is, since the paper comes before the sheet. */
+static uint64_t paper_refusal(const struct paper *paper)
 {
-    printf("%s: refused %u (%s)\n", name, refusal, in_words(refusal));
-}
+    const uint64_t refusal = brinefeather_mark(paper->bytes, paper->len, NULL, 0);
 
-/* The paper comes before the sheet: a good one is not refused, though an empty sheet is. */
-static unsigned paper_refused(const struct paper *paper)
-{
-    unsigned refusal = brinefeather_refused(brinefeather_mark(paper->bytes, paper->len, NULL, 0));
-
-    return refusal == BRINEFEATHER_BADSHEET ? 0 : refusal;
+    return brinefeather_refused(refusal) == BRINEFEATHER_BADSHEET ? 0 : refusal;
 }
 
 static void print_mark(const char *name, uint64_t mark)
@@ -83,7 +82,7 @@ static void mark_sheet(const struct paper *paper, const char *name, struct sums 
     sums->sheets++;
     if (brinefeather_refused(mark)) {
         sums->refused++;
-        print_refusal(name, brinefeather_refused(mark));
+        print_refusal(name, mark, sheet.bytes, sheet.len);
         return;
     }
     sums->marked++;
@@ -106,13 +105,13 @@ static int mark_all(const struct paper *paper, char **names)
 static int run_desk(const char *name, char **sheet_names)
 {
     static struct paper paper;
-    unsigned refusal;
+    uint64_t refusal;
 
     paper.len = read_file(name, paper.bytes, sizeof paper.bytes);
-    refusal = paper_refused(&paper);
+    refusal = paper_refusal(&paper);
     if (!refusal)
         return mark_all(&paper, sheet_names);
-    print_refusal(name, refusal);
+    print_refusal(name, refusal, paper.bytes, paper.len);
     return PAPER_REFUSED;
 }
 

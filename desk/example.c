@@ -1,4 +1,5 @@
-/* Marks a blank sheet of a small paper, then its key: prints "0 of 2 right" and "2 of 2 right". */
+/* Marks three sheets of a small paper: a blank one, its key, and the key cut short. It prints
+   "0 of 2 right", "2 of 2 right" and "refused 17 (badsheet), offset 2". */
 #include <stdio.h>
 #include <brinefeather.h>
 
@@ -6,8 +7,13 @@ static void print_mark(const uint8_t *paper, size_t paper_len,
                        const uint8_t *sheet, size_t sheet_len)
 {
     uint64_t n = brinefeather_mark(paper, paper_len, sheet, sheet_len);
-    if (brinefeather_refused(n)) printf("refused %u\n", brinefeather_refused(n));
-    else printf("%u of %u right\n", brinefeather_right(n), brinefeather_total(n));
+    unsigned number = brinefeather_refused(n);
+
+    if (number)
+        printf("refused %u (%s), offset %u\n", number, brinefeather_refusal_name(number),
+               brinefeather_offset(n));
+    else
+        printf("%u of %u right\n", brinefeather_right(n), brinefeather_total(n));
 }
 
 int main(void)
@@ -18,7 +24,10 @@ int main(void)
     static uint8_t key[BRINEFEATHER_LONGEST_KEY];
     uint64_t length = brinefeather_key(paper, sizeof paper, key, sizeof key);
 
+    if (brinefeather_refused(length))
+        return 1;
     print_mark(paper, sizeof paper, blank, sizeof blank);
-    if (!brinefeather_refused(length)) print_mark(paper, sizeof paper, key, (size_t)length);
+    print_mark(paper, sizeof paper, key, (size_t)length);
+    print_mark(paper, sizeof paper, key, (size_t)length - 1);
     return 0;
 }

@@ -1,6 +1,7 @@
 #include <inttypes.h>
 #include <stdio.h>
 #include <string.h>
+#include "brinefeather.h"
 #include "generate.h"
 #include "observe.h"
 #include "plain.h"
@@ -660,18 +661,15 @@ static unsigned missed(uint64_t n)
 static unsigned print_answers(void)
 {
     static const char *const kind[] = {"done", "now asleep", "caller ended", "refused"};
-    static const char *const refusal[] = {"", "badstate", "badcaller", "asleep", "trap", "badcall", "notmodelled",
-                                          "priv", "noproc", "nomemory", "held", "locked", "deadlock", "lcktable",
-                                          "notlocked"};
     unsigned n = 0;
 
     for (size_t i = 0; i < COUNT(kind); i++) {
         printf("%10" PRIu64 "  answer %zu %s", answers[i], i, kind[i]);
         n += missed(answers[i]);
     }
-    printf("%10s  refusal 1 badstate (no paper leads there)\n", "-");
-    for (size_t i = 2; i < COUNT(refusal); i++) {
-        printf("%10" PRIu64 "  refusal %zu %s", refusals[i], i, refusal[i]);
+    printf("%10s  refusal 1 %s (no paper leads there)\n", "-", brinefeather_refusal_name(R_BADSTATE));
+    for (unsigned i = R_BADCALLER; i < COUNT(refusals); i++) {
+        printf("%10" PRIu64 "  refusal %u %s", refusals[i], i, brinefeather_refusal_name(i));
         n += missed(refusals[i]);
     }
     return n;

@@ -98,7 +98,39 @@
     X(BAD_BOTH, "badpaper, though the sheet is bad too") \
     X(BLANK_SHEET, "blank, though the sheet is bad too") \
     X(BAD_ROOM, "badpaper, though there is no room for a key") \
-    X(BLANK_ROOM, "blank, though there is no room for a key")
+    X(BLANK_ROOM, "blank, though there is no room for a key") \
+    X(PAPER_SHORT, "badpaper, too short for a header: its length is told") \
+    X(PAPER_SHORT_VERSION, "badpaper, too short for a header: its length is told, though the version is broken too") \
+    X(PAPER_VERSION, "badpaper at 0, the version") \
+    X(PAPER_EVENTS, "badpaper at 2, the event count") \
+    X(PAPER_EVENT_OFFSET, "badpaper at 4, the event offset") \
+    X(PAPER_SEQUENCES, "badpaper at 6, the sequence count") \
+    X(PAPER_SEQUENCE_OFFSET, "badpaper at 8, the sequence offset") \
+    X(PAPER_LENGTH, "badpaper at 10, the length, though the file's own length fits the counts") \
+    X(PAPER_COUNTS, "badpaper at 10, though the length there is the file's own") \
+    X(PAPER_CUT, "badpaper at 10: only the file is too short") \
+    X(PAPER_LONG, "badpaper at 10: only the file is too long") \
+    X(PAPER_OVER, "badpaper at 10: only the file is too long, by 65,536 bytes") \
+    X(PAPER_EVENT, "badpaper at the sequence number of an event") \
+    X(PAPER_LAST_EVENT, "badpaper at the sequence number of the last event of two or more") \
+    X(PAPER_EVENT_1000, "badpaper at 20,010, the sequence number of the last event of 1,000") \
+    X(PAPER_TWO, "badpaper at a field of the header, though another behind it there is broken too") \
+    X(PAPER_VERSION_LENGTH, "badpaper at 0, the version, though the length is broken too") \
+    X(PAPER_HEADER_EVENT, "badpaper at a field of the header, though the sequence number of an event is broken too") \
+    X(PAPER_LENGTH_EVENT, "badpaper at 10, the length, though the sequence number of an event is broken too") \
+    X(PAPER_TWO_EVENTS, "badpaper at the sequence number of an event, though a later one's is broken too") \
+    X(SHEET_SHORT, "badsheet, too short for a header: its length is told") \
+    X(SHEET_SHORT_VERSION, "badsheet, too short for a header: its length is told, though the version is broken too") \
+    X(SHEET_VERSION, "badsheet at 0, the version") \
+    X(SHEET_RANGE, "badsheet at 2, an answer count above 1,000") \
+    X(SHEET_RANGE_ONLY, "badsheet at 2, an answer count above 1,000 that the file's length fits") \
+    X(SHEET_CUT, "badsheet at 2: the file is too short") \
+    X(SHEET_LONG, "badsheet at 2: the file is too long") \
+    X(SHEET_OVER, "badsheet at 2: the file is too long, by 65,536 bytes") \
+    X(SHEET_OFFSET, "badsheet at 4, the offset") \
+    X(SHEET_VERSION_LENGTH, "badsheet at 0, the version, though the file's length is broken too") \
+    X(SHEET_VERSION_OFFSET, "badsheet at 0, the version, though the offset is broken too") \
+    X(SHEET_LENGTH_OFFSET, "badsheet at 2, for the file's length, though the offset is broken too")
 
 #define OBSERVE_NUMBER(name, text) OBSERVE_##name,
 enum observe_situation { OBSERVE_SITUATIONS(OBSERVE_NUMBER) OBSERVE_COUNT };

@@ -1,5 +1,5 @@
-/* Worked cases (a) to (k) of document 01, further cases, and a random walk that tests soundness, refusals, masks and a
-   slow second reading of the lock rules. */
+/* Worked cases (a) to (k) of document 01, further cases, broken files (request 1 of document 02), and a random walk
+   that tests soundness, refusals, masks and a slow second reading of the lock rules. */
 #include <stdio.h>
 #include <string.h>
 #include "plain.h"
@@ -406,6 +406,263 @@ static void cases(void)
     full_table();
 }
 
+/* ---- files: where a broken one is told to be broken ---- */
+
+enum { UNTOUCHED = 0xA5 };
+
+struct file {
+    uint8_t bytes[21037]; /* one more than the longest paper */
+    size_t len;
+};
+
+/* A field of a file, the value that is put there, and so many bytes that are put behind the file. */
+struct slip {
+    uint16_t at, value, behind;
+};
+
+static struct file paper, sheet;
+
+static void put(struct file *f, size_t at, size_t value)
+{
+    f->bytes[at] = (uint8_t)(value >> 8);
+    f->bytes[at + 1] = (uint8_t)value;
+}
+
+static void make(struct file *f, const struct slip *s)
+{
+    put(f, s->at, s->value);
+    f->len += s->behind;
+}
+
+static void lay_paper(size_t events, size_t sequences)
+{
+    const size_t start = 12 + 20 * events, end = start + 16 * sequences;
+    const size_t header[] = {1, events, 12, sequences, start, end};
+
+    memset(&paper, 0, sizeof paper);
+    for (size_t i = 0; i < 6; i++)
+        put(&paper, 2 * i, header[i]);
+    paper.len = end;
+}
+
+static void lay_sheet(size_t answers)
+{
+    memset(&sheet, 0, sizeof sheet);
+    put(&sheet, 0, 1);
+    put(&sheet, 2, answers);
+    put(&sheet, 4, 6);
+    sheet.len = 6 + 16 * answers;
+}
+
+/* The marker's number; the key writer's must be the same if it is the paper that is refused, and no byte written. */
+static uint64_t told(void)
+{
+    static uint8_t key[16006];
+    uint64_t marked, written;
+
+    memset(key, UNTOUCHED, sizeof key);
+    marked = plain_mark(paper.bytes, paper.len, sheet.bytes, sheet.len);
+    written = plain_key(paper.bytes, paper.len, key, sizeof key);
+    if (marked % 65536 == R_BADPAPER || marked % 65536 == R_BLANK)
+        check(written == marked && key[0] == UNTOUCHED && memcmp(key, key + 1, sizeof key - 1) == 0);
+    return marked;
+}
+
+static int tells(uint64_t number, size_t offset)
+{
+    const uint64_t n = told(), wanted = number + 65536 * (uint64_t)offset;
+
+    if (n != wanted)
+        printf("told %016llX, and %016llX is right\n", (unsigned long long)n, (unsigned long long)wanted);
+    return n == wanted;
+}
+
+/* A paper of 3 events and 2 sequences; an event's sequence number may be 0, 1 or 2. */
+static void good_files(void)
+{
+    lay_paper(3, 2);
+    put(&paper, 30, 1);
+    put(&paper, 70, 2);
+    lay_sheet(3);
+}
+
+static void no_slip(void)
+{
+    good_files();
+    check(told() == 0x0003000000000000u); /* events of kind 0 are refused, so no answer of zeros is right */
+    put(&paper, 50, 2);
+    check(told() == 0x0003000000000000u);
+    lay_paper(1000, 64);
+    put(&paper, 20010, 64);
+    check(told() == 0x03E8000003E50000u);
+}
+
+/* A count that keeps its own rule breaks that of the field which is worked out from it. */
+static void slips_in_a_paper(void)
+{
+    static const struct {
+        struct slip slip;
+        uint16_t told;
+    } slips[] = {
+        {{0, 0, 0}, 0}, {{0, 2, 0}, 0}, {{0, 256, 0}, 0}, {{0, 65535, 0}, 0},
+        {{2, 1001, 0}, 2}, {{2, 32768, 0}, 2}, {{2, 65535, 0}, 2},
+        {{2, 0, 0}, 8}, {{2, 2, 0}, 8}, {{2, 4, 0}, 8}, {{2, 1000, 0}, 8},
+        {{4, 0, 0}, 4}, {{4, 11, 0}, 4}, {{4, 13, 0}, 4}, {{4, 32, 0}, 4},
+        {{6, 65, 0}, 6}, {{6, 65535, 0}, 6},
+        {{6, 0, 0}, 10}, {{6, 1, 0}, 10}, {{6, 3, 0}, 10}, {{6, 64, 0}, 10},
+        {{8, 0, 0}, 8}, {{8, 12, 0}, 8}, {{8, 71, 0}, 8}, {{8, 73, 0}, 8},
+        {{10, 0, 0}, 10}, {{10, 103, 0}, 10}, {{10, 105, 0}, 10}, {{10, 104, 1}, 10}, {{10, 105, 1}, 10},
+        {{30, 3, 0}, 30}, {{30, 256, 0}, 30}, {{50, 3, 0}, 50}, {{70, 3, 0}, 70}, {{70, 65535, 0}, 70}};
+
+    for (size_t i = 0; i < sizeof slips / sizeof slips[0]; i++) {
+        good_files();
+        make(&paper, &slips[i].slip);
+        check(tells(R_BADPAPER, slips[i].told));
+    }
+}
+
+/* In file order. Where the count of events is wrong, so is what is worked out from it. */
+static void two_slips_in_a_paper(void)
+{
+    static const struct slip slips[] = {{0, 2, 0}, {2, 1001, 0}, {4, 13, 0}, {6, 65, 0}, {8, 71, 0}, {10, 105, 0},
+                                        {10, 104, 1}, {30, 3, 0}, {50, 4, 0}, {70, 65535, 0}};
+
+    for (size_t i = 0; i < 100; i++) {
+        const struct slip *one = &slips[i / 10], *two = &slips[i % 10];
+
+        good_files();
+        make(&paper, one);
+        make(&paper, two);
+        check(tells(R_BADPAPER, one < two ? one->at : two->at));
+    }
+}
+
+static void slips_in_a_sheet(void)
+{
+    static const struct {
+        struct slip slip;
+        uint16_t told;
+    } slips[] = {
+        {{0, 0, 0}, 0}, {{0, 2, 0}, 0}, {{0, 256, 0}, 0}, {{2, 0, 0}, 2}, {{2, 2, 0}, 2}, {{2, 4, 0}, 2},
+        {{2, 1001, 0}, 2}, {{2, 65535, 0}, 2}, {{2, 3, 1}, 2}, {{2, 3, 16}, 2},
+        {{4, 0, 0}, 4}, {{4, 5, 0}, 4}, {{4, 7, 0}, 4}, {{4, 22, 0}, 4}};
+
+    for (size_t i = 0; i < sizeof slips / sizeof slips[0]; i++) {
+        good_files();
+        make(&sheet, &slips[i].slip);
+        check(tells(R_BADSHEET, slips[i].told));
+    }
+}
+
+static void two_slips_in_a_sheet(void)
+{
+    static const struct slip slips[] = {{0, 2, 0}, {2, 1001, 0}, {2, 3, 1}, {4, 7, 0}};
+
+    for (size_t i = 0; i < 16; i++) {
+        const struct slip *one = &slips[i / 4], *two = &slips[i % 4];
+
+        good_files();
+        make(&sheet, one);
+        make(&sheet, two);
+        check(tells(R_BADSHEET, one < two ? one->at : two->at));
+    }
+}
+
+/* The length of what is too short for a header is told, whatever stands in it. */
+static void short_papers(int bytes)
+{
+    for (size_t len = 0; len < 12; len++) {
+        good_files();
+        if (bytes >= 0)
+            memset(paper.bytes, bytes, len);
+        paper.len = len;
+        check(tells(R_BADPAPER, len));
+    }
+}
+
+static void short_sheets(int bytes)
+{
+    for (size_t len = 0; len < 6; len++) {
+        good_files();
+        if (bytes >= 0)
+            memset(sheet.bytes, bytes, len);
+        sheet.len = len;
+        check(tells(R_BADSHEET, len));
+    }
+}
+
+static void short_files(void)
+{
+    enum { AS_THEY_ARE = -1 };
+
+    short_papers(AS_THEY_ARE);
+    short_papers(0);
+    short_papers(255);
+    short_sheets(AS_THEY_ARE);
+    short_sheets(0);
+    short_sheets(255);
+    good_files();
+    check(plain_mark(NULL, 0, sheet.bytes, sheet.len) == R_BADPAPER);
+    check(plain_mark(paper.bytes, paper.len, NULL, 0) == R_BADSHEET);
+}
+
+static void wrong_lengths(void)
+{
+    good_files();
+    paper.len -= 1; check(told() == 655375);    /* 15 + 65,536 x 10 */
+    paper.len += 2; check(told() == 655375);
+    paper.len = 12; check(tells(R_BADPAPER, 10));
+    good_files();
+    sheet.len -= 16; check(told() == 131089);   /* an answer short: 17 + 65,536 x 2 */
+    sheet.len += 15; check(told() == 131089);   /* a byte short */
+    sheet.len += 2; check(told() == 131089);    /* a byte over */
+    sheet.len = 6; check(tells(R_BADSHEET, 2));
+}
+
+static void limits(void)
+{
+    lay_sheet(0);
+    lay_paper(1001, 0); check(tells(R_BADPAPER, 2));    /* nothing else is wrong */
+    lay_paper(1, 65); check(tells(R_BADPAPER, 6));
+    lay_paper(1000, 64); put(&paper, 20010, 65); check(told() == 1311375375);   /* 15 + 65,536 x 20,010 */
+    lay_paper(1000, 0); put(&paper, 20010, 1); check(tells(R_BADPAPER, 20010));
+    put(&paper, 19990, 1); check(tells(R_BADPAPER, 19990));
+    put(&paper, 30, 1); check(tells(R_BADPAPER, 30));
+    good_files();
+    lay_sheet(1001); check(tells(R_BADSHEET, 2));
+}
+
+/* Badpaper, blank, badsheet or noroom; the second and the last have no offset. */
+static void order_of_files(void)
+{
+    uint8_t key[53];
+
+    good_files();
+    check(plain_key(paper.bytes, paper.len, key, 53) == R_NOROOM);
+    check(plain_key(paper.bytes, paper.len, key, 0) == R_NOROOM);
+    put(&paper, 70, 3);
+    check(plain_key(paper.bytes, paper.len, key, 0) == R_BADPAPER + 65536 * 70);
+    put(&sheet, 0, 2); check(tells(R_BADPAPER, 70));
+    lay_paper(0, 2); check(told() == R_BLANK);
+    check(plain_key(paper.bytes, paper.len, key, 0) == R_BLANK);
+    put(&paper, 4, 13); check(tells(R_BADPAPER, 4));
+    lay_paper(0, 0); check(told() == R_BLANK);
+    paper.len += 1; check(tells(R_BADPAPER, 10));
+}
+
+static void files(void)
+{
+    no_slip();
+    slips_in_a_paper();
+    two_slips_in_a_paper();
+    slips_in_a_sheet();
+    two_slips_in_a_sheet();
+    short_files();
+    wrong_lengths();
+    limits();
+    order_of_files();
+}
+
 /* ---- soundness ---- */
 
 static int same(const struct row *p, const struct row *q)
@@ -662,6 +919,7 @@ static void walk(int n)
 int main(void)
 {
     cases();
+    files();
     walk(200000);
     printf("plain-test: %d checks, %d failed\n", done, bad);
     return bad != 0;

@@ -490,7 +490,7 @@ void state_event(struct state *st, const struct event *ev, struct answer *an)
 /* ---- paper, sheet, key and mark ---- */
 
 enum { VERSION = 1, MOST_EVENTS = 1000, MOST_SEQUENCES = 64, MOST_ANSWERS = 1000 };
-enum { PAPER_HEADER = 12, EVENT = 20, SHEET_HEADER = 6, ANSWER = 16 };
+enum { PAPER_HEADER = 12, EVENT = 20, SEQUENCE_NUMBER = 18, SHEET_HEADER = 6, ANSWER = 16 };
 
 struct paper {
     size_t events, sequences;
@@ -521,47 +521,85 @@ static void write_four(uint8_t *b, uint32_t n)
 
 static uint16_t sequence_number(const struct paper *p, size_t at)
 {
-    return read_two(p->event + EVENT * at + 18);
+    return read_two(p->event + EVENT * at + SEQUENCE_NUMBER);
 }
 
-static int sequence_numbers_fit(const struct paper *p)
+/* A refusal that has the offset of a field. */
+static uint64_t refused_at(uint64_t number, size_t offset)
+{
+    return number + 65536 * (uint64_t)offset;
+}
+
+/* For the fields of a header, two bytes each, in file order: 0, or the refusal at the first that breaks its rule. */
+static uint64_t first_broken(uint64_t number, const int *keeps_its_rule, size_t fields)
+{
+    for (size_t i = 0; i < fields; i++)
+        if (!keeps_its_rule[i])
+            return refused_at(number, 2 * i);
+    return 0;
+}
+
+/* 0, or the refusal at the first sequence number that breaks its rule. */
+static uint64_t first_broken_event(const struct paper *p)
 {
     for (size_t i = 0; i < p->events; i++)
         if (sequence_number(p, i) > p->sequences)
-            return 0;
-    return 1;
+            return refused_at(R_BADPAPER, PAPER_HEADER + EVENT * i + SEQUENCE_NUMBER);
+    return 0;
 }
 
-/* 0, or the refusal number. */
-static int read_paper(const uint8_t *file, size_t len, struct paper *p)
+/* 0, or the refusal. A header that keeps all rules says where events and sequences are. */
+static uint64_t read_paper_header(const uint8_t *file, size_t len, struct paper *p)
 {
-    size_t sequence_offset, length;
+    const size_t events = read_two(file + 2), sequences = read_two(file + 6);
+    const size_t sequence_offset = PAPER_HEADER + EVENT * events, length = sequence_offset + SEQ * sequences;
+    const int keeps_its_rule[] = {
+        read_two(file) == VERSION,
+        events <= MOST_EVENTS,
+        read_two(file + 4) == PAPER_HEADER,
+        sequences <= MOST_SEQUENCES,
+        read_two(file + 8) == sequence_offset,
+        read_two(file + 10) == length && len == length
+    };
+    const uint64_t refusal = first_broken(R_BADPAPER, keeps_its_rule, PAPER_HEADER / 2);
 
-    if (len < PAPER_HEADER)
-        return R_BADPAPER;
-    p->events = read_two(file + 2);
-    p->sequences = read_two(file + 6);
-    sequence_offset = PAPER_HEADER + EVENT * p->events;
-    length = sequence_offset + SEQ * p->sequences;
-    if (read_two(file) != VERSION || p->events > MOST_EVENTS || read_two(file + 4) != PAPER_HEADER
-        || p->sequences > MOST_SEQUENCES || read_two(file + 8) != sequence_offset
-        || read_two(file + 10) != length || len != length)
-        return R_BADPAPER;
+    if (refusal)
+        return refusal;
+    p->events = events;
+    p->sequences = sequences;
     p->event = file + PAPER_HEADER;
     p->sequence = file + sequence_offset;
-    if (!sequence_numbers_fit(p))
-        return R_BADPAPER;
+    return 0;
+}
+
+/* 0, or the refusal. */
+static uint64_t read_paper(const uint8_t *file, size_t len, struct paper *p)
+{
+    uint64_t refusal;
+
+    if (len < PAPER_HEADER)
+        return refused_at(R_BADPAPER, len);
+    refusal = read_paper_header(file, len, p);
+    if (!refusal)
+        refusal = first_broken_event(p);
+    if (refusal)
+        return refusal;
     return p->events == 0 ? R_BLANK : 0;
 }
 
-/* Is it a sheet? Then *answers is how many it has. */
-static int read_sheet(const uint8_t *file, size_t len, size_t *answers)
+/* 0, or the refusal. *answers is how many the sheet has. */
+static uint64_t read_sheet(const uint8_t *file, size_t len, size_t *answers)
 {
+    int whole, keeps_its_rule[SHEET_HEADER / 2];
+
     if (len < SHEET_HEADER)
-        return 0;
+        return refused_at(R_BADSHEET, len);
     *answers = read_two(file + 2);
-    return read_two(file) == VERSION && *answers <= MOST_ANSWERS && read_two(file + 4) == SHEET_HEADER
-        && len == SHEET_HEADER + ANSWER * *answers;
+    whole = len == SHEET_HEADER + ANSWER * *answers;
+    keeps_its_rule[0] = read_two(file) == VERSION;
+    keeps_its_rule[1] = *answers <= MOST_ANSWERS && whole;
+    keeps_its_rule[2] = read_two(file + 4) == SHEET_HEADER;
+    return first_broken(R_BADSHEET, keeps_its_rule, SHEET_HEADER / 2);
 }
 
 static void read_event(const struct paper *p, size_t at, struct event *ev)
@@ -625,12 +663,12 @@ uint64_t plain_mark(const uint8_t *paper, size_t paper_len, const uint8_t *sheet
     struct paper p;
     size_t answers;
     uint64_t missing, surplus;
-    int refusal = read_paper(paper, paper_len, &p);
+    uint64_t refusal = read_paper(paper, paper_len, &p);
 
+    if (!refusal)
+        refusal = read_sheet(sheet, sheet_len, &answers);
     if (refusal)
-        return (uint64_t)refusal;
-    if (!read_sheet(sheet, sheet_len, &answers))
-        return R_BADSHEET;
+        return refusal;
     missing = p.events > answers ? p.events - answers : 0;
     surplus = answers > p.events ? answers - p.events : 0;
     return (uint64_t)p.events << 48 | count_right(&p, sheet + SHEET_HEADER, answers) << 32 | missing << 16 | surplus;
@@ -640,10 +678,10 @@ uint64_t plain_key(const uint8_t *paper, size_t paper_len, uint8_t *key, size_t 
 {
     struct paper p;
     struct state st;
-    int refusal = read_paper(paper, paper_len, &p);
+    uint64_t refusal = read_paper(paper, paper_len, &p);
 
     if (refusal)
-        return (uint64_t)refusal;
+        return refusal;
     if (key_len < SHEET_HEADER + ANSWER * p.events)
         return R_NOROOM;
     write_two(key, VERSION);

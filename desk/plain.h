@@ -1,7 +1,8 @@
 /*
- * Document 01 in plain C, in place: the model of the process, signal and lock calls, and paper, sheet, key and mark
- * over it. Written from the document by helpers who had not seen the Rattle code (the one of reader and marker had
- * seen parts of the design notes). plain_mark and plain_key are as the two routines of brinefeather.h.
+ * Document 01 in plain C, in place, with request 1 of document 02 (where a file is broken): the model of the process,
+ * signal and lock calls, and paper, sheet, key and mark over it. Written from the documents by helpers who had not seen
+ * the Rattle code. (The one of reader and marker had seen parts of the design notes; the one of request 1 was given its
+ * reading: the fields and their order.) plain_mark and plain_key are as the two routines of brinefeather.h.
  */
 #ifndef PLAIN_H
 #define PLAIN_H

@@ -1,15 +1,19 @@
 /*
- * Holds the two routines of brinefeather.h to document 01. The bytes below, and what should come of them, were worked
- * out by hand from its rules. Every call is made twice: the files between guard bytes, and then with nothing behind
- * them, where a memory checker sees a read too far.
+ * Holds the two routines of brinefeather.h to document 01 and to request 1 of document 02, the offsets. The bytes below,
+ * and what should come of them, were worked out by hand from their rules. Every call is made twice: the files between
+ * guard bytes, and then with nothing behind them, where a memory checker sees a read too far.
  */
 #include <inttypes.h>
+#include <limits.h>
 #include <stdio.h>
 #include <stdlib.h>
 #include <string.h>
 #include "brinefeather.h"
 
+#define COUNT(list) (sizeof (list) / sizeof (list)[0])
 #define MARK(total, right, missing, surplus) 0x##total##right##missing##surplus##u
+#define BADPAPER_AT(offset) (BRINEFEATHER_BADPAPER + UINT64_C(65536) * (offset))
+#define BADSHEET_AT(offset) (BRINEFEATHER_BADSHEET + UINT64_C(65536) * (offset))
 
 #define ZERO16 "00000000 00000000 00000000 00000000 "
 #define EXAMPLE_EVENTS "01 3A 0001 " ZERO16 "02 00 0000 " ZERO16 /* getproc from process 1, a tick */
@@ -23,8 +27,10 @@
 #define BAD_PAPER "0002 0002 000C 0000 0034 0034 " EXAMPLE_EVENTS
 #define BAD_SHEET "0002 0000 0006 "
 #define ONE_BLANK "0001 0001 0006 " ZERO16
-#define PAPER_OFF(header) {"paper header off", header, header " " EXAMPLE_EVENTS, EXAMPLE_KEY, 15}
-#define SHEET_OFF(header) {"sheet header off", header, EXAMPLE, header " " EXAMPLE_ANSWERS, 17}
+#define PAPER_OFF(offset, header) \
+    {"paper header off", header, header " " EXAMPLE_EVENTS, EXAMPLE_KEY, BADPAPER_AT(offset)}
+#define SHEET_OFF(offset, header) \
+    {"sheet header off", header, EXAMPLE, header " " EXAMPLE_ANSWERS, BADSHEET_AT(offset)}
 
 /* One event that names sequence `number` of two. */
 #define NAMES(event, number) "0001 0001 000C 0002 0020 0040 " event " 0000 0000 0000 00000000 00000000 " number \
@@ -33,7 +39,8 @@
 /* Limits: so many ticks that have that sequence number, so many sequences and answers. */
 #define TICKS(times, number) "02 00 0000 0000 0000 0000 00000000 00000000 " number " *" times ":20 "
 #define SEQUENCES(times) ZERO16 "*" times ":16 "
-#define FULL "0001 03E8 000C 0040 4E2C 522C " TICKS("1000", "0040") SEQUENCES("64")
+#define FULL_HEADER "0001 03E8 000C 0040 4E2C 522C "
+#define FULL FULL_HEADER TICKS("1000", "0040") SEQUENCES("64")
 #define THOUSAND "0001 03E8 0006 " ZERO16 "*1000:16 "
 
 /* Two processes and a conflict. Three bytes of either sequence are ABC; four are ABCX and ABCY. */
@@ -193,15 +200,53 @@ static uint64_t key(const struct file *paper, const struct file *room, struct fi
     return n[0];
 }
 
-static void taken_apart(void)
+/* The numbers that refusals of files have, and those up to 26 of document 02, each with every offset of a paper. */
+static void refusals_apart(void)
+{
+    static const unsigned numbers[] = {15, 16, 17, 18, 20, 23, 24, 25, 26};
+
+    begin("a refusal taken apart");
+    for (unsigned i = 0; i < COUNT(numbers) * 20011; i++) {
+        const unsigned number = numbers[i / 20011], offset = i % 20011;
+        const uint64_t n = number + UINT64_C(65536) * offset;
+
+        check("the refusal number", brinefeather_refused(n), number);
+        check("its offset", brinefeather_offset(n), offset);
+        check("perfect, refused", brinefeather_perfect(n) != 0, 0);
+    }
+}
+
+static void not_refused(const char *what, uint64_t n)
+{
+    check(what, brinefeather_refused(n), 0);
+    check(what, brinefeather_offset(n), 0);
+}
+
+static void key_lengths_apart(void)
+{
+    begin("a key's length taken apart");
+    for (size_t events = 1; events <= 1000; events++)
+        not_refused("a key's length", brinefeather_key_length(events));
+    check("the longest key", brinefeather_key_length(1000), BRINEFEATHER_LONGEST_KEY);
+}
+
+/* A paper with one sequence has 28 bytes: so much may a routine return that writes papers (document 02). */
+static void paper_lengths_apart(void)
+{
+    begin("a paper's length taken apart");
+    for (uint64_t length = 28; length <= BRINEFEATHER_LONGEST_PAPER; length++)
+        not_refused("a paper's length", length);
+}
+
+static void marks_apart(void)
 {
     const uint64_t n = MARK(03E8,0001,0002,FFFF);
 
-    begin("the number taken apart");
-    for (unsigned r = BRINEFEATHER_BADPAPER; r <= BRINEFEATHER_NOROOM; r++)
-        check("a refusal number", brinefeather_refused(r), r);
-    check("a key's length", brinefeather_refused(22), 0);
-    check("the least mark", brinefeather_refused(MARK(0001,0000,0000,0000)), 0);
+    begin("a mark taken apart");
+    for (uint64_t counts = 0; counts <= 1000 * 1000; counts += 7)
+        not_refused("a mark", (1 + counts / 1000) << 48 | counts % 1000 << 16 | counts % 27);
+    not_refused("the least mark", MARK(0001,0000,0000,0000));
+    not_refused("one that ends as badpaper does", MARK(0001,0001,0000,000F));
     check("total", brinefeather_total(n), 1000);
     check("right", brinefeather_right(n), 1);
     check("missing", brinefeather_missing(n), 2);
@@ -209,8 +254,18 @@ static void taken_apart(void)
     check("perfect", brinefeather_perfect(MARK(0002,0002,0000,0000)) != 0, 1);
     check("perfect with a surplus", brinefeather_perfect(MARK(0002,0002,0000,0001)) != 0, 0);
     check("perfect with a wrong answer", brinefeather_perfect(MARK(0002,0001,0000,0000)) != 0, 0);
-    check("perfect, refused", brinefeather_perfect(15) != 0, 0);
-    check("the longest key", brinefeather_key_length(1000), BRINEFEATHER_LONGEST_KEY);
+}
+
+static void refusal_names(void)
+{
+    static const char *const wanted[] = {"unknown", "badstate", "badcaller", "asleep", "trap", "badcall", "notmodelled",
+                                         "priv", "noproc", "nomemory", "held", "locked", "deadlock", "lcktable",
+                                         "notlocked", "badpaper", "blank", "badsheet", "noroom", "unknown"};
+
+    begin("names of refusals");
+    for (unsigned i = 0; i < COUNT(wanted); i++)
+        check(wanted[i], strcmp(brinefeather_refusal_name(i), wanted[i]) == 0, 1);
+    check("no refusal", strcmp(brinefeather_refusal_name(UINT_MAX), "unknown") == 0, 1);
 }
 
 static const struct {
@@ -228,43 +283,50 @@ static const struct {
     {"wrong place", "right answers", EXAMPLE, "0001 0002 0006 " ZERO16 PID_1, MARK(0002,0000,0000,0000)},
     {"zero field not zero", "legal, not right", EXAMPLE, /* its bytes are among the 16 that must agree */
         "0001 0002 0006 " PID_1 "00 00 0000 0000 0001 00000000 00000000", MARK(0002,0001,0000,0000)},
-    {"empty files", "null paper", NULL, NO_ANSWERS, 15},
-    {"empty files", "empty paper", "", NO_ANSWERS, 15},
-    {"empty files", "null sheet", EXAMPLE, NULL, 17},
-    {"empty files", "empty sheet", EXAMPLE, "", 17},
-    {"empty files", "null both", NULL, NULL, 15},
-    {"blank paper", "no sequences", BLANK, NO_ANSWERS, 16},
-    {"blank paper", "two sequences", BLANK_SEQUENCES, EXAMPLE_KEY, 16},
-    {"blank paper", "not sound in all else", "0001 0000 000C 0000 000C 000D ", NO_ANSWERS, 15},
-    PAPER_OFF("0000 0002 000C 0000 0034 0034"), PAPER_OFF("0002 0002 000C 0000 0034 0034"), /* version */
-    PAPER_OFF("0001 0001 000C 0000 0034 0034"), PAPER_OFF("0001 0003 000C 0000 0034 0034"), /* events */
-    PAPER_OFF("0001 0001 000C 0000 0020 0020"), PAPER_OFF("0001 0003 000C 0000 0048 0048"), /* and what hangs on them */
-    PAPER_OFF("0001 0002 000B 0000 0034 0034"), PAPER_OFF("0001 0002 000D 0000 0034 0034"), /* event offset */
-    PAPER_OFF("0001 0002 000C 0001 0034 0034"), PAPER_OFF("0001 0002 000C 0001 0034 0044"), /* sequences */
-    PAPER_OFF("0001 0002 000C 0000 0033 0034"), PAPER_OFF("0001 0002 000C 0000 0035 0034"), /* sequence offset */
-    PAPER_OFF("0001 0002 000C 0000 0034 0033"), PAPER_OFF("0001 0002 000C 0000 0034 0035"), /* length */
-    PAPER_OFF("0001 4002 000C 0000 0034 0034"), PAPER_OFF("0001 0002 000C 1000 0034 0034"), /* right modulo 65,536 */
-    PAPER_OFF("0100 0200 0C00 0000 3400 3400"),                                             /* little-endian */
-    SHEET_OFF("0000 0002 0006"), SHEET_OFF("0002 0002 0006"), SHEET_OFF("0001 0001 0006"), SHEET_OFF("0001 0003 0006"),
-    SHEET_OFF("0001 0002 0005"), SHEET_OFF("0001 0002 0007"), SHEET_OFF("0001 1002 0006"), SHEET_OFF("0100 0200 0600"),
+    {"empty files", "null paper", NULL, NO_ANSWERS, BADPAPER_AT(0)},
+    {"empty files", "empty paper", "", NO_ANSWERS, BADPAPER_AT(0)},
+    {"empty files", "null sheet", EXAMPLE, NULL, BADSHEET_AT(0)},
+    {"empty files", "empty sheet", EXAMPLE, "", BADSHEET_AT(0)},
+    {"empty files", "null both", NULL, NULL, BADPAPER_AT(0)},
+    {"blank paper", "no sequences", BLANK, NO_ANSWERS, BRINEFEATHER_BLANK},
+    {"blank paper", "two sequences", BLANK_SEQUENCES, EXAMPLE_KEY, BRINEFEATHER_BLANK},
+    {"blank paper", "not sound in all else", "0001 0000 000C 0000 000C 000D ", NO_ANSWERS, BADPAPER_AT(10)},
+    PAPER_OFF(0, "0000 0002 000C 0000 0034 0034"), PAPER_OFF(0, "0002 0002 000C 0000 0034 0034"),
+    /* a legal number of events that is not theirs: what hangs on it breaks, the sequence offset or the length */
+    PAPER_OFF(8, "0001 0001 000C 0000 0034 0034"), PAPER_OFF(8, "0001 0003 000C 0000 0034 0034"),
+    PAPER_OFF(10, "0001 0001 000C 0000 0020 0020"), PAPER_OFF(10, "0001 0003 000C 0000 0048 0048"),
+    PAPER_OFF(4, "0001 0002 000B 0000 0034 0034"), PAPER_OFF(4, "0001 0002 000D 0000 0034 0034"),
+    PAPER_OFF(10, "0001 0002 000C 0001 0034 0034"), PAPER_OFF(10, "0001 0002 000C 0001 0034 0044"),
+    PAPER_OFF(8, "0001 0002 000C 0000 0033 0034"), PAPER_OFF(8, "0001 0002 000C 0000 0035 0034"),
+    PAPER_OFF(10, "0001 0002 000C 0000 0034 0033"), PAPER_OFF(10, "0001 0002 000C 0000 0034 0035"),
+    /* right modulo 65,536; little-endian */
+    PAPER_OFF(2, "0001 4002 000C 0000 0034 0034"), PAPER_OFF(6, "0001 0002 000C 1000 0034 0034"),
+    PAPER_OFF(0, "0100 0200 0C00 0000 3400 3400"),
+    SHEET_OFF(0, "0000 0002 0006"), SHEET_OFF(0, "0002 0002 0006"), SHEET_OFF(2, "0001 0001 0006"),
+    SHEET_OFF(2, "0001 0003 0006"), SHEET_OFF(4, "0001 0002 0005"), SHEET_OFF(4, "0001 0002 0007"),
+    SHEET_OFF(2, "0001 1002 0006"), SHEET_OFF(0, "0100 0200 0600"), SHEET_OFF(2, "0001 0003 0007"),
     {"sequence number", "the count", NAMES("02 00 0000", "0002 "), ONE_BLANK, MARK(0001,0001,0000,0000)},
-    {"sequence number", "one above, in a call", NAMES("01 3E 0001", "0003 "), ONE_BLANK, 15},
-    {"sequence number", "one above, in a tick", NAMES("02 00 0000", "0003 "), ONE_BLANK, 15},
-    {"sequence number", "256, in an event of no kind", NAMES("09 00 0000", "0100 "), ONE_BLANK, 15},
-    {"order of refusals", "bad paper, bad sheet", BAD_PAPER, BAD_SHEET, 15},
-    {"order of refusals", "bad paper, good sheet", BAD_PAPER, EXAMPLE_KEY, 15},
-    {"order of refusals", "blank paper, bad sheet", BLANK, BAD_SHEET, 16},
-    {"order of refusals", "blank paper, null sheet", BLANK_SEQUENCES, NULL, 16},
-    {"order of refusals", "good paper, bad sheet", EXAMPLE, BAD_SHEET, 17},
+    {"sequence number", "one above, in a call", NAMES("01 3E 0001", "0003 "), ONE_BLANK, BADPAPER_AT(30)},
+    {"sequence number", "one above, in a tick", NAMES("02 00 0000", "0003 "), ONE_BLANK, BADPAPER_AT(30)},
+    {"sequence number", "256, in an event of no kind", NAMES("09 00 0000", "0100 "), ONE_BLANK, BADPAPER_AT(30)},
+    {"order of refusals", "bad paper, bad sheet", BAD_PAPER, BAD_SHEET, BADPAPER_AT(0)},
+    {"order of refusals", "bad paper, good sheet", BAD_PAPER, EXAMPLE_KEY, BADPAPER_AT(0)},
+    {"order of refusals", "blank paper, bad sheet", BLANK, BAD_SHEET, BRINEFEATHER_BLANK},
+    {"order of refusals", "blank paper, null sheet", BLANK_SEQUENCES, NULL, BRINEFEATHER_BLANK},
+    {"order of refusals", "good paper, bad sheet", EXAMPLE, BAD_SHEET, BADSHEET_AT(0)},
     {"limits", "1000 events, 64 sequences, 1000 answers", FULL, THOUSAND, MARK(03E8,03E8,0000,0000)},
     {"limits", "998 answers over", EXAMPLE, THOUSAND, MARK(0002,0001,0000,03E6)},
     {"limits", "1000 answers missing", FULL, NO_ANSWERS, MARK(03E8,0000,03E8,0000)},
-    {"limits", "1001 answers", FULL, "0001 03E9 0006 " ZERO16 "*1001:16 ", 17},
-    {"limits", "1001 events", "0001 03E9 000C 0040 4E40 5240 " TICKS("1001", "0040") SEQUENCES("64"), THOUSAND, 15},
-    {"limits", "65 sequences", "0001 03E8 000C 0041 4E2C 523C " TICKS("1000", "0040") SEQUENCES("65"), THOUSAND, 15},
-    {"limits", "65 of 64", "0001 03E8 000C 0040 4E2C 522C " TICKS("1000", "0041") SEQUENCES("64"), THOUSAND, 15},
-    {"limits", "blank, 64 sequences", "0001 0000 000C 0040 000C 040C " SEQUENCES("64"), NO_ANSWERS, 16},
-    {"limits", "blank, 65 sequences", "0001 0000 000C 0041 000C 041C " SEQUENCES("65"), NO_ANSWERS, 15},
+    {"limits", "1001 answers", FULL, "0001 03E9 0006 " ZERO16 "*1001:16 ", BADSHEET_AT(2)},
+    {"limits", "1001 events", "0001 03E9 000C 0040 4E40 5240 " TICKS("1001", "0040") SEQUENCES("64"), THOUSAND,
+        BADPAPER_AT(2)},
+    {"limits", "65 sequences", "0001 03E8 000C 0041 4E2C 523C " TICKS("1000", "0040") SEQUENCES("65"), THOUSAND,
+        BADPAPER_AT(6)},
+    {"limits", "65 of 64", FULL_HEADER TICKS("1000", "0041") SEQUENCES("64"), THOUSAND, BADPAPER_AT(30)},
+    {"limits", "65 of 64, in the last event", FULL_HEADER TICKS("999", "0040") TICKS("1", "0041") SEQUENCES("64"),
+        THOUSAND, BADPAPER_AT(20010)},
+    {"limits", "blank, 64 sequences", "0001 0000 000C 0040 000C 040C " SEQUENCES("64"), NO_ANSWERS, BRINEFEATHER_BLANK},
+    {"limits", "blank, 65 sequences", "0001 0000 000C 0041 000C 041C " SEQUENCES("65"), NO_ANSWERS, BADPAPER_AT(6)},
 };
 
 static const struct {
@@ -284,18 +346,19 @@ static void check_no_key(const struct file *paper, uint64_t refusal)
     static const size_t room[] = {0, 5, 38, 16006};
     struct file written;
 
-    for (size_t i = 0; i < 4; i++)
+    for (size_t i = 0; i < COUNT(room); i++)
         check("no key", key(paper, &(struct file){NULL, room[i], 0}, &written), refusal);
 }
 
 static void play_marks(void)
 {
-    for (size_t i = 0; i < sizeof marks / sizeof marks[0]; i++) {
-        struct file paper = hex(marks[i].paper, paper_store), sheet = hex(marks[i].sheet, sheet_store);
+    for (size_t i = 0; i < COUNT(marks); i++) {
+        const struct file paper = hex(marks[i].paper, paper_store), sheet = hex(marks[i].sheet, sheet_store);
+        const unsigned refusal = (unsigned)marks[i].mark & 0xFFFF;
 
         begin(marks[i].group);
         check(marks[i].what, mark(&paper, &sheet), marks[i].mark);
-        if (marks[i].mark < BRINEFEATHER_BADSHEET)
+        if (refusal == BRINEFEATHER_BADPAPER || refusal == BRINEFEATHER_BLANK)
             check_no_key(&paper, marks[i].mark);
     }
 }
@@ -304,7 +367,7 @@ static void play_marks(void)
 static void play_keys(void)
 {
     begin("keys");
-    for (size_t i = 0; i < sizeof keys / sizeof keys[0]; i++) {
+    for (size_t i = 0; i < COUNT(keys); i++) {
         const struct file paper = hex(keys[i].paper, paper_store), wanted = hex(keys[i].key, wanted_store);
         struct file written, room = {NULL, wanted.len < 200 ? 0 : wanted.len - 20, 0};
 
@@ -336,22 +399,103 @@ static void wrong_bits(void)
 }
 
 /* Every proper prefix, with the rest behind it; one byte over, and 65,536. */
-static void lengths(const char *name, const char *paper_text, const char *sheet_text, uint64_t refusal)
+static void paper_lengths(const char *name, const char *text)
 {
-    struct file paper = hex(paper_text, paper_store), sheet = hex(sheet_text, sheet_store);
-    struct file *f = refusal == BRINEFEATHER_BADPAPER ? &paper : &sheet;
-    size_t whole = f->len;
+    const struct file sheet = hex(NO_ANSWERS, sheet_store), whole = hex(text, paper_store);
 
     begin(name);
-    for (size_t len = 0; len <= whole + 65536; len += len == whole + 1 ? 65535 : 1) {
-        if (len == whole)
+    for (size_t len = 0; len <= whole.len + 65536; len += len == whole.len + 1 ? 65535 : 1) {
+        const struct file paper = {paper_store, len, len < whole.len ? whole.len - len : 0};
+
+        if (len == whole.len)
             continue;
-        f->len = len;
-        f->behind = len < whole ? whole - len : 0;
-        check("another length", mark(&paper, &sheet), refusal);
-        if (f == &paper)
-            check_no_key(&paper, refusal);
+        check("another length", mark(&paper, &sheet), BADPAPER_AT(len < 12 ? len : 10));
+        check_no_key(&paper, BADPAPER_AT(len < 12 ? len : 10));
     }
+}
+
+static void sheet_lengths(const char *name, const char *text)
+{
+    const struct file paper = hex(EXAMPLE, paper_store), whole = hex(text, sheet_store);
+
+    begin(name);
+    for (size_t len = 0; len <= whole.len + 65536; len += len == whole.len + 1 ? 65535 : 1) {
+        const struct file sheet = {sheet_store, len, len < whole.len ? whole.len - len : 0};
+
+        if (len != whole.len)
+            check("another length", mark(&paper, &sheet), BADSHEET_AT(len < 6 ? len : 2));
+    }
+}
+
+static unsigned number_at(const uint8_t *file, size_t at)
+{
+    return (unsigned)file[at] << 8 | file[at + 1];
+}
+
+static void put_number(uint8_t *file, size_t at, unsigned number)
+{
+    file[at] = (uint8_t)(number >> 8);
+    file[at + 1] = (uint8_t)number;
+}
+
+/* Two fields broken, or twice the same: the first in file order is told. 65,535 breaks the rule of every field. */
+static void break_two(const struct file *paper, const struct file *sheet, uint8_t *store, size_t first, size_t second)
+{
+    const unsigned then[] = {number_at(store, first), number_at(store, second)};
+
+    put_number(store, first, 65535);
+    put_number(store, second, 65535);
+    if (store == sheet_store)
+        check("two fields of a sheet", mark(paper, sheet), BADSHEET_AT(first));
+    else {
+        check("two fields of a paper", mark(paper, sheet), BADPAPER_AT(first));
+        check_no_key(paper, BADPAPER_AT(first));
+    }
+    put_number(store, second, then[1]);
+    put_number(store, first, then[0]);
+}
+
+static size_t paper_field(size_t i)
+{
+    return i < 6 ? 2 * i : 12 + 20 * (i - 6) + 18;
+}
+
+static void two_of_paper(void)
+{
+    const struct file paper = hex(CONFLICT, paper_store), sheet = hex(CONFLICT_KEY, sheet_store);
+    const size_t fields = 6 + 10;
+
+    begin("each field of a paper broken, and each two");
+    for (size_t pair = 0; pair < fields * fields; pair++)
+        if (pair / fields <= pair % fields)
+            break_two(&paper, &sheet, paper_store, paper_field(pair / fields), paper_field(pair % fields));
+}
+
+static void two_of_sheet(void)
+{
+    const struct file paper = hex(CONFLICT, paper_store), sheet = hex(CONFLICT_KEY, sheet_store);
+
+    begin("each field of a sheet broken, and each two");
+    for (size_t pair = 0; pair < 3 * 3; pair++)
+        if (pair / 3 <= pair % 3)
+            break_two(&paper, &sheet, sheet_store, 2 * (pair / 3), 2 * (pair % 3));
+}
+
+/* A paper with one bit flipped in this byte. A count that is legal still breaks the field that hangs on it. */
+static uint64_t flipped(const uint8_t *paper, size_t at, size_t events, uint64_t sound)
+{
+    const size_t field = at / 2 * 2;
+    const unsigned number = number_at(paper, field);
+
+    if (field == 2)
+        return BADPAPER_AT(number > 1000 ? 2 : 8);
+    if (field == 6)
+        return BADPAPER_AT(number > 64 ? 6 : 10);
+    if (field < 12)
+        return BADPAPER_AT(field);
+    if (at < 12 + 20 * events && (field - 12) % 20 == 18 && number > number_at(paper, 6))
+        return BADPAPER_AT(field);
+    return sound;
 }
 
 /* Each bit of a header counts, and what is no header and no sequence number is not layout. */
@@ -362,28 +506,33 @@ static void flipped_bits(const char *name, const char *text, size_t events, uint
 
     begin(name);
     for (size_t bit = 0; bit < 8 * paper.len; bit++) {
-        size_t at = bit / 8, in_event = at < 12 || at >= 12 + 20 * events ? 0 : (at - 12) % 20;
-        uint64_t m, k;
+        uint64_t m, k, wanted;
 
         flip(paper_store, bit);
+        wanted = flipped(paper_store, bit / 8, events, sound);
         m = mark(&paper, &sheet);
         k = key(&paper, &room, &written);
-        check("key by mark", k, brinefeather_refused(m) ? m : brinefeather_key_length(brinefeather_total(m)));
-        if (in_event < 18)
-            check("by its place", brinefeather_refused(m), at < 12 ? 15 : sound);
+        check("by its place", brinefeather_refused(m) ? m : 0, wanted);
+        check("key by mark", k, wanted ? wanted : brinefeather_key_length(brinefeather_total(m)));
         flip(paper_store, bit);
     }
 }
 
 int main(void)
 {
-    taken_apart();
+    refusals_apart();
+    key_lengths_apart();
+    paper_lengths_apart();
+    marks_apart();
+    refusal_names();
     play_marks();
     play_keys();
     wrong_bits();
-    lengths("paper cut or lengthened", EXAMPLE, NO_ANSWERS, BRINEFEATHER_BADPAPER);
-    lengths("sheet cut or lengthened", EXAMPLE, NO_ANSWERS, BRINEFEATHER_BADSHEET);
-    lengths("key as sheet cut or lengthened", EXAMPLE, EXAMPLE_KEY, BRINEFEATHER_BADSHEET);
+    two_of_paper();
+    two_of_sheet();
+    paper_lengths("paper cut or lengthened", EXAMPLE);
+    sheet_lengths("sheet cut or lengthened", NO_ANSWERS);
+    sheet_lengths("key as sheet cut or lengthened", EXAMPLE_KEY);
     flipped_bits("one bit of the example flipped", EXAMPLE, 2, 0);
     flipped_bits("one bit of a conflict flipped", CONFLICT, 10, 0);
     flipped_bits("one bit of a blank paper flipped", BLANK_SEQUENCES, 0, BRINEFEATHER_BLANK);

@@ -102,16 +102,16 @@ try_good_files() {
 }
 
 try_missing_files() {
-    prints mark "refused 15" "no files"
-    prints key "refused 15" "no paper"
+    prints mark "refused 15 0" "no files"
+    prints key "refused 15 0" "no paper"
     bytes "$example" > paper
-    prints mark "refused 17" "no sheet"
+    prints mark "refused 17 0" "no sheet"
     mkdir sheet
-    prints mark "refused 17" "a folder for a sheet"
+    prints mark "refused 17 0" "a folder for a sheet"
     rmdir sheet
     rm paper
     mkdir paper
-    prints mark "refused 15" "a folder for a paper"
+    prints mark "refused 15 0" "a folder for a paper"
     rmdir paper
 }
 
@@ -122,13 +122,32 @@ try_bad_files() {
     prints key "refused 16" "a paper without events"
     keeps AA55 "a refusal leaves an old file as it was"
     head -c 200000 /dev/zero > paper
-    prints mark "refused 15" "an overlong paper"
+    prints mark "refused 15 0" "an overlong paper"
     bytes "$example" > paper
     head -c 200000 /dev/zero >> paper
-    prints mark "refused 15" "a paper with more behind it"
+    prints mark "refused 15 10" "a paper with more behind it"
     bytes "$example" > paper
     head -c 200000 /dev/zero > sheet
-    prints mark "refused 17" "an overlong sheet"
+    prints mark "refused 17 0" "an overlong sheet"
+    bytes 0001 0003 0006 "$answers" > sheet
+    prints mark "refused 17 2" "a sheet one answer short"
+    bytes 0001 0002 00 > sheet
+    prints mark "refused 17 5" "a sheet too short for its header"
+}
+
+try_bad_papers() {
+    bytes 0001 0002 000C 00 > paper
+    prints mark "refused 15 7" "a paper too short for its header"
+    prints key "refused 15 7" "a paper too short for its header"
+    bytes "${example% *}" > paper
+    prints mark "refused 15 10" "a paper cut off"
+    prints key "refused 15 10" "a paper cut off"
+    bytes "${example:0:-4} 0001" > paper
+    prints mark "refused 15 50" "the second event names a sequence"
+    { bytes 0001 03E8 000C 0000 4E2C 4E2C; head -c 19998 /dev/zero; bytes 0001; } > paper
+    prints mark "refused 15 20010" "the last of 1000 events names a sequence"
+    prints key "refused 15 20010" "the last of 1000 events names a sequence"
+    keeps AA55 "a refusal leaves an old file as it was"
 }
 
 programs() {
@@ -138,6 +157,7 @@ programs() {
     try_missing_files
     try_good_files
     try_bad_files
+    try_bad_papers
     cd "$root"
     echo "programs: $tries checks, 0 wrong"
 }
@@ -167,9 +187,54 @@ desk_files() {
     { cat events; bytes 00; } > overlong
 }
 
+# paper_place OFFSET WORDS BYTES..: desk says of a paper with these bytes where it is broken; sheet_place, of a sheet.
+paper_place() {
+    bytes "${@:3}" > broken
+    desk_says 2 "broken: refused 15 $1 (badpaper: $2 (offset $1))" "" broken blank
+}
+
+sheet_place() {
+    bytes "${@:3}" > broken
+    desk_says 1 "broken: refused 17 $1 (badsheet: $2 (offset $1))"$'\n'"$none_marked" "" paper broken
+}
+
+paper_places() {
+    local events="013A0001 $zeros 02000000 $zeros" names="0200 0000 0000 0000 0000 00000000 00000000"
+    paper_place 1 "the file has only 1 byte; a paper has at least 12" 00
+    paper_place 11 "the file has only 11 bytes; a paper has at least 12" 0001 0000 000C 0000 000C 00
+    paper_place 0 "the version is 2; it must be 1" 0002 0002 000C 0000 0034 0034 "$events"
+    paper_place 2 "the event count is 1001; it must be from 0 to 1000" 0001 03E9 000C 0000 0034 0034 "$events"
+    paper_place 4 "the header says that the events start at 6; they must start at 12" 0001 0002 0006 0000 0034 0034 "$events"
+    paper_place 6 "the sequence count is 65; it must be from 0 to 64" 0001 0002 000C 0041 0034 0034 "$events"
+    paper_place 8 "the header says that the sequences start at 52; with 1 event they must start at 32" \
+        0001 0001 000C 0000 0034 0034 "$events"
+    paper_place 10 "the length is 51 in the header and 52 in the file; with 2 events and 0 sequences it must be 52" \
+        0001 0002 000C 0000 0034 0033 "$events"
+    paper_place 10 "the length is 84 in the header and 83 in the file; with 2 events and 2 sequences it must be 84" \
+        0001 0002 000C 0002 0034 0054 "$events $zeros ${zeros:2}"
+    paper_place 10 "the length is 51 in the header and 52 in the file; with 2 events and 1 sequence it must be 68" \
+        0001 0002 000C 0001 0034 0033 "$events"
+    paper_place 30 "event 1 names sequence 1, the paper has 0" 0001 0002 000C 0000 0034 0034 "$names 0001 $names FFFF"
+    paper_place 250 "event 12 names sequence 9, the paper has 3" 0001 000D 000C 0003 0110 0140 \
+        "$(printf "$names 0003 %.0s" {1..11}) $names 0009 $names 0004 $zeros $zeros $zeros"
+}
+
+sheet_places() {
+    sheet_place 1 "the file has only 1 byte; a sheet has at least 6" 00
+    sheet_place 5 "the file has only 5 bytes; a sheet has at least 6" 0001 0000 00
+    sheet_place 0 "the version is 9552; it must be 1" 2550 4446 2D31
+    sheet_place 2 "the answer count is 1001; it must be from 0 to 1000" 0001 03E9 0006
+    sheet_place 2 "the file has 38 bytes; with 3 answers it must have 54" 0001 0003 0006 "$answers"
+    sheet_place 2 "the file has 6 bytes; with 1 answer it must have 22" 0001 0001 0006
+    sheet_place 4 "the header says that the answers start at 12; they must start at 6" 0001 0002 000C "$answers"
+}
+
 desk() {
     local blank="blank: total 2 right 0 missing 2 surplus 0 perfect no" full="full: total 2 right 2 missing 0 surplus 0 perfect yes"
-    local thousand="thousand: total 2 right 1 missing 0 surplus 998 perfect no" off="refused 17 (badsheet: the sheet's layout is off)"
+    local thousand="thousand: total 2 right 1 missing 0 surplus 998 perfect no"
+    local none_marked="all: sheets 1 marked 0 perfect 0 refused 1 right 0"
+    local long="long: refused 17 2 (badsheet: the file has more than 16006 bytes; with 1000 answers it must have 16006 (offset 2))"
+    local gone="gone: refused 17 0 (badsheet: the file is empty; a sheet has at least 6 bytes (offset 0))"
     tries=0
     mkdir "$work/files"
     cd "$work/files"
@@ -178,13 +243,15 @@ desk() {
     desk_says 0 "all: sheets 0 marked 0 perfect 0 refused 0 right 0" "" paper
     desk_says 0 "all: sheets 0 marked 0 perfect 0 refused 0 right 0" "" events
     desk_says 0 "$blank"$'\n'"$full"$'\n'"$thousand"$'\n'"all: sheets 3 marked 3 perfect 1 refused 0 right 3" "" paper blank full thousand
-    desk_says 1 "long: $off"$'\n'"$full"$'\n'"all: sheets 2 marked 1 perfect 1 refused 1 right 2" "" paper long full
-    desk_says 1 "gone: $off"$'\n'"all: sheets 1 marked 0 perfect 0 refused 1 right 0" \
-        "desk: gone: No such file or directory (it counts as empty)" paper gone
+    desk_says 1 "$long"$'\n'"$full"$'\n'"all: sheets 2 marked 1 perfect 1 refused 1 right 2" "" paper long full
+    desk_says 1 "$gone"$'\n'"$none_marked" "desk: gone: No such file or directory (it counts as empty)" paper gone
     desk_says 2 "none: refused 16 (blank: the paper has no events)" "" none blank
-    desk_says 2 "full: refused 15 (badpaper: the paper's layout is off)" "" full blank
-    desk_says 2 "overlong: refused 15 (badpaper: the paper's layout is off)" "" overlong blank
-    desk_says 2 ".: refused 15 (badpaper: the paper's layout is off)" "desk: .: Is a directory (it counts as empty)" . blank
+    desk_says 2 "overlong: refused 15 10 (badpaper: the length is 21036 in the header and more than 21036 in the file; \
+with 1000 events and 64 sequences it must be 21036 (offset 10))" "" overlong blank
+    desk_says 2 ".: refused 15 0 (badpaper: the file is empty; a paper has at least 12 bytes (offset 0))" \
+        "desk: .: Is a directory (it counts as empty)" . blank
+    paper_places
+    sheet_places
     cd "$root"
     echo "desk: $tries checks, 0 wrong"
 }
@@ -217,13 +284,17 @@ by_hand() {
 
 # ---- the demo: the marks of the samples again, and a user's own files
 
-# demo_says WHAT LINE WORD..: runs the demo with these settings; it must print this line.
+# demo_says WHAT LINE WORD..: runs the demo with these settings; it must print this line. Also_says: another line of it.
 demo_says() {
     local what=$1 line=$2
     shift 2
-    tries=$((tries + 1))
     env "$@" examples/demo.sh > "$work/log" 2>&1 || true
-    grep -qxF -- "$line" "$work/log" || { cat "$work/log"; fail "demo, $what: '$line' is not there"; }
+    also_says "$what" "$line"
+}
+
+also_says() {
+    tries=$((tries + 1))
+    grep -qxF -- "$2" "$work/log" || { cat "$work/log"; fail "demo, $1: '$2' is not there"; }
 }
 
 # The crates proved are counted, and at the end they are all of crates.txt.
@@ -233,6 +304,21 @@ demo_counts() {
     last=$(grep -E ' proved [0-9]+ of [0-9]+: ' "$work/demo" | tail -n 1)
     tries=$((tries + 1))
     [[ $last == *" proved $all of $all: "* ]] || fail "make demo: its last count of crates proved is '$last', and there are $all"
+}
+
+# What mark and key print of a refused file, and the words.
+demo_refusals() {
+    local off="refused 15 10 (badpaper: the length is 424 in the header and 423 in the file; with 19 events and 2 sequences it must be 424 (offset 10))"
+    head -c 423 examples/table/paper > "$work/cut"
+    head -c 300 examples/table/key > "$work/cut.sheet"
+    : > "$work/none.txt"
+    demo_says "a broken paper, marked" "$work/cut.sheet: $off" PAPER="$work/cut" SHEET="$work/cut.sheet" KEY="$work/no key"
+    also_says "a broken paper, its key" "$work/cut: $off"
+    [ ! -e "$work/no key" ] || fail "demo: a broken paper has a key"
+    demo_says "a broken sheet" \
+        "$work/cut.sheet: refused 17 2 (badsheet: the file has 300 bytes; with 19 answers it must have 310 (offset 2))" \
+        PAPER=examples/table/paper SHEET="$work/cut.sheet"
+    demo_says "a paper without events" "$work/none.txt: refused 16 (blank: the paper has no events)" PAPER="$work/none.txt"
 }
 
 demo() {
@@ -255,6 +341,7 @@ demo() {
     cmp -s "$work/my key" examples/table/key || fail "demo: the key is another"
     demo_says "no paper" "Which paper is it? Add PAPER=file." SHEET="$own"
     demo_says "no file" "There is no file nofile." PAPER=nofile SHEET="$own"
+    demo_refusals
     echo "demo: $tries checks, 0 wrong"
 }
 
@@ -268,13 +355,22 @@ example_is_quoted() {
         || fail "the README quotes another example than desk/example.c"
 }
 
+# The header and the pkg-config file have one version.
+version_is_one() {
+    local header package
+    header=$(sed -n 's/^#define BRINEFEATHER_VERSION //p' "$1/include/brinefeather.h")
+    package=$(PKG_CONFIG_PATH="$1/lib/pkgconfig" pkg-config --modversion brinefeather)
+    [ "${header:-none}" = "$package" ] || fail "the header's version is '$header', the pkg-config file's '$package'"
+}
+
 example_compiles() {
     local flags
     flags=$(PKG_CONFIG_PATH="$1/lib/pkgconfig" pkg-config --cflags --libs brinefeather)
     mkdir "$work/elsewhere"
     cp desk/example.c "$work/elsewhere"
     (cd "$work/elsewhere" && $cc $strict $link -o example example.c $flags)
-    [ "$($run "$work/elsewhere/example")" = "0 of 2 right"$'\n'"2 of 2 right" ] || fail "the example against the installed files"
+    $run "$work/elsewhere/example" | cmp - <(printf '0 of 2 right\n2 of 2 right\nrefused 17 (badsheet), offset 2\n') \
+        || fail "the example against the installed files"
 }
 
 installed_programs_run() {
@@ -314,6 +410,7 @@ installation() {
     example_is_quoted
     odd_prefix_is_refused
     quietly make --no-print-directory install PREFIX="$prefix"
+    version_is_one "$prefix"
     example_compiles "$prefix"
     installed_programs_run "$prefix"
     pages_read_well "$prefix/share/man"

@@ -1,6 +1,7 @@
 /*
- * Draws legal papers and sheets for transcribe-test.sh. Usage: transcribe-test FOLDER COUNT SEED writes FOLDER/paper1,
+ * Draws papers and sheets for transcribe-test.sh. Usage: transcribe-test FOLDER COUNT SEED writes FOLDER/paper1,
  * FOLDER/sheet1 and so on. Odd ones are a generated paper and its key, even ones have anything that the layout allows.
+ * FOLDER/broken1 is one of the two broken, so that it is neither a paper nor a sheet, and FOLDER/places1 says where.
  */
 #include <stdio.h>
 #include <stdlib.h>
@@ -13,9 +14,12 @@
 #define ONE_OF(list) ((list)[generate_below(COUNT(list))])
 
 enum { PAPER_HEADER = 12, EVENT = 20, SHEET_HEADER = 6, ANSWER = 16, MOST = 1000, MOST_SEQUENCES = 64 };
-enum { LOCK = 0x3E };
+enum { LOCK = 0x3E, SEQUENCE_NUMBER = 18 };
+
+enum { MORE = 40 }; /* bytes, at most, that a broken file has behind it */
 
 static uint8_t paper[BRINEFEATHER_LONGEST_PAPER], sheet[BRINEFEATHER_LONGEST_SHEET];
+static uint8_t broken[BRINEFEATHER_LONGEST_PAPER + MORE];
 
 static void put16(uint8_t *at, size_t n)
 {
@@ -118,6 +122,70 @@ static size_t draw_wild_sheet(void)
     return SHEET_HEADER + ANSWER * answers;
 }
 
+/* ---- broken files ---- */
+
+static uint64_t refused_as_paper(const uint8_t *file, size_t len)
+{
+    const uint64_t n = plain_mark(file, len, NULL, 0);
+
+    return brinefeather_refused(n) == BRINEFEATHER_BADPAPER ? n : 0;
+}
+
+static uint64_t refused_as_sheet(const uint8_t *file, size_t len)
+{
+    static const uint8_t tick[PAPER_HEADER + EVENT] = {0, 1, 0, 1, 0, 12, 0, 0, 0, 32, 0, 32, EV_TICK};
+    const uint64_t n = plain_mark(tick, sizeof tick, file, len);
+
+    return brinefeather_refused(n) ? n : 0;
+}
+
+/* A number a little off, or any. */
+static void break_number(size_t at)
+{
+    const size_t number = (size_t)broken[at] << 8 | broken[at + 1];
+
+    put16(broken + at, generate_one_in(2) ? number + generate_below(5) - 2 : generate_below(65536));
+}
+
+static size_t break_length(size_t len)
+{
+    switch (generate_below(4)) {
+    case 0: return generate_below(PAPER_HEADER);
+    case 1: return generate_below(len + 1);
+    case 2: return len - (len > 0);
+    default: return len + 1 + generate_below(MORE / 2);
+    }
+}
+
+/* A number of the header, the length, or a sequence number if it is a paper. Returns the length. */
+static size_t break_once(size_t len)
+{
+    const size_t events = len < PAPER_HEADER ? 0 : (len - PAPER_HEADER) / EVENT;
+
+    if (generate_one_in(3))
+        return break_length(len);
+    if (events > 0 && generate_one_in(2))
+        break_number(PAPER_HEADER + EVENT * (size_t)generate_below(events) + SEQUENCE_NUMBER);
+    else
+        break_number(2u * generate_below(PAPER_HEADER / 2));
+    return len;
+}
+
+/* Leaves a file that is refused as a paper and as a sheet. Returns its length. */
+static size_t draw_broken(const uint8_t *file, size_t whole)
+{
+    size_t len;
+
+    do {
+        memcpy(broken, file, whole);
+        len = break_once(whole);
+        len = generate_one_in(2) ? break_once(len) : len;
+    } while (!refused_as_paper(broken, len) || !refused_as_sheet(broken, len));
+    return len;
+}
+
+/* ---- all of it ---- */
+
 static void save(const char *folder, const char *name, unsigned number, const uint8_t *bytes, size_t len)
 {
     char path[4096];
@@ -129,6 +197,19 @@ static void save(const char *folder, const char *name, unsigned number, const ui
         fprintf(stderr, "%s: cannot be written\n", path);
         exit(EXIT_FAILURE);
     }
+}
+
+/* The places are two lines, as "badpaper 10" and "badsheet 4". */
+static void save_broken(const char *folder, unsigned number, const uint8_t *file, size_t whole)
+{
+    const size_t len = draw_broken(file, whole);
+    char text[40] = "";
+    const int text_len = snprintf(text, sizeof text, "badpaper %u\nbadsheet %u\n",
+                                  brinefeather_offset(refused_as_paper(broken, len)),
+                                  brinefeather_offset(refused_as_sheet(broken, len)));
+
+    save(folder, "broken", number, broken, len);
+    save(folder, "places", number, (const uint8_t *)text, (size_t)text_len);
 }
 
 int main(int count, char **words)
@@ -148,6 +229,10 @@ int main(int count, char **words)
         }
         save(words[1], "paper", i, paper, paper_len);
         save(words[1], "sheet", i, sheet, sheet_len);
+        if (i % 3 == 0)
+            save_broken(words[1], i, sheet, sheet_len);
+        else
+            save_broken(words[1], i, paper, paper_len);
     }
     return EXIT_SUCCESS;
 }

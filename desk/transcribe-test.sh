@@ -1,6 +1,7 @@
 #!/usr/bin/env bash
-# Tries transcribe under the sanitizers: what it shows gives the same bytes again; what is wrong is told by its line.
-# Usage: transcribe-test.sh [COUNT [SEED]], of drawn papers and sheets. Needs no proof and no archive.
+# Tries transcribe under the sanitizers: what it shows gives the same bytes again; what is wrong is told by its line, or
+# by its place in a file. Usage: transcribe-test.sh [COUNT [SEED]], of drawn papers and sheets. Needs no proof and no
+# archive.
 # shellcheck disable=SC2086,SC2154 # lists of words are meant to be split; tools.sh gives them
 set -eu
 cd "$(dirname "$0")/.."
@@ -60,6 +61,30 @@ says() {
     [ "$said" = "$3" ] || fail "of '${2:0:60}' it is said: $said"
 }
 
+# tells NUMBER: the drawn file of that number is broken where the plain routines say, as a paper and as a sheet.
+tells() {
+    tries=$((tries + 1))
+    if ./transcribe show "drawn/broken$1" > said 2>&1; then fail "drawn/broken$1 is shown"; fi
+    sed -nE 's/^drawn.*: (bad[a-z]+): .* \(offset ([0-9]+)\)$/\1 \2/p' said | cmp -s - "drawn/places$1" \
+        || fail "of drawn/broken$1 it is said: $(< said)"
+}
+
+# explains WORDS NUMBER [OFFSET] FILE: it gives these words for a refusal that mark or key printed.
+explains() {
+    local words=$1 said
+    shift
+    tries=$((tries + 1))
+    said=$(./transcribe refused "$@") || fail "refused $*: it has no words"
+    [ "$said" = "$words" ] || fail "refused $*: the words are: $said"
+}
+
+# said_length BYTES LENGTH: a file of so many zeros is said to have that length.
+said_length() {
+    head -c "$1" /dev/zero > file
+    explains "badpaper: the length is 0 in the header and $2 in the file; with 0 events and 0 sequences it must be 12 (offset 10)" \
+        15 10 file
+}
+
 # stops STATUS WORD..: with these words it ends with the status.
 stops() {
     local wanted=$1 status=0
@@ -80,6 +105,7 @@ mkdir drawn
 for n in $(seq "$count"); do
     trip paper "drawn/paper$n"
     trip sheet "drawn/sheet$n"
+    tells "$n"
 done
 
 # ---- texts and their bytes
@@ -193,6 +219,8 @@ stops 1 show nofile
 stops 1 show .
 stops 1 show transcribe
 stops 1 show "$root/examples/table/key" "$root/examples/table/paper"
+[ "$(< said)" = "$root/examples/table/key: badpaper: the header says that the events start at 6; they must start at 12 (offset 4)" ] \
+    || fail "a key for a paper: $(< said)"
 stops 0 show "$root/examples/table/paper" "$root/examples/table/key"
 printf 'tick\n' > text
 stops 1 paper text nofolder/file
@@ -200,5 +228,31 @@ stops 1 paper transcribe file
 for size in 1 5 11 12 13 32; do
     head -c "$size" "$root/examples/table/paper" > file
     stops 1 show file
+done
+
+# ---- refusals, as mark and key print them
+head -c 423 "$root/examples/table/paper" > file
+explains "badpaper: the length is 424 in the header and 423 in the file; with 19 events and 2 sequences it must be 424 (offset 10)" \
+    15 10 file
+explains "badsheet: the file has 423 bytes; with 19 answers it must have 310 (offset 2)" 17 2 file
+explains "blank: the paper has no events" 16 file
+explains "badpaper: event 1 names sequence 0, the paper has 2 (offset 30)" 15 30 file
+for offset in 1 12 20 31 410 422 432 470; do
+    explains "badpaper: no field of a paper that has a rule is there (offset $offset)" 15 $offset file
+done
+explains "badsheet: no field of a sheet that has a rule is there (offset 6)" 17 6 file
+said_length 21036 21036
+said_length 21037 "more than 21036"
+said_length 30000 "more than 21036"
+head -c 16006 /dev/zero > file
+explains "badsheet: the file has 16006 bytes; with 0 answers it must have 6 (offset 2)" 17 2 file
+head -c 16007 /dev/zero > file
+explains "badsheet: the file has more than 16006 bytes; with 0 answers it must have 6 (offset 2)" 17 2 file
+: > file
+explains "badpaper: the file is empty; a paper has at least 12 bytes (offset 0)" 15 0 file
+explains "badsheet: the file is empty; a sheet has at least 6 bytes (offset 4)" 17 4 file
+for words in "" "15" "15 file" "16 0 file" "18 file" "12 file" "x file" "15 x file" "15 -1 file" "15 21037 file" "15 0 nofile" \
+    "15 0 file file"; do
+    stops 1 refused $words
 done
 echo "transcribe: $trips round trips, $tries other tries, 0 wrong"

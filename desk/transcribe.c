@@ -9,12 +9,15 @@
 #include <stdio.h>
 #include <stdlib.h>
 #include <string.h>
+#include "brinefeather.h"
+#include "place.h"
 
 #define COUNT(list) (sizeof (list) / sizeof (list)[0])
 #define BYTE_ORDER_MARK "\xEF\xBB\xBF" /* some editors begin a text with it */
 
 enum { PAPER_HEADER = 12, EVENT = 20, SEQUENCE = 16, SHEET_HEADER = 6, ANSWER = 16 };
 enum { MOST = 1000, MOST_SEQUENCES = 64, LONGEST = PAPER_HEADER + EVENT * MOST + SEQUENCE * MOST_SEQUENCES };
+enum { PAPER_NUMBERS = PAPER_HEADER / 2, SHEET_NUMBERS = SHEET_HEADER / 2 }; /* of a header */
 enum { MOST_COMPLAINTS = 20 };
 enum { CALL = 1, TICK, TAKE, REPORT };
 enum { DONE, ASLEEP, ENDED, REFUSED };
@@ -45,9 +48,6 @@ static const struct {
              {"indirect", 0x51}};
 static const char *const event_kinds[] = {NULL, NULL, "tick", "take", "report"};
 static const char *const answer_kinds[] = {"done", "asleep", "ended", "refused"};
-static const char *const refusals[] = {NULL, "badstate", "badcaller", "asleep", "trap", "badcall", "notmodelled",
-                                       "priv", "noproc", "nomemory", "held", "locked", "deadlock", "lcktable",
-                                       "notlocked", "badpaper", "blank", "badsheet", "noroom"};
 
 /* What a text gave so far, or what a file holds. */
 static struct {
@@ -569,8 +569,8 @@ static uint8_t read_refusal(void)
     struct word w = read_word(":=");
     int64_t value;
 
-    for (uint8_t i = 1; i < COUNT(refusals); i++)
-        if (is(&w, refusals[i]))
+    for (uint8_t i = 1; i <= BRINEFEATHER_REFUSALS; i++)
+        if (is(&w, brinefeather_refusal_name(i)))
             return i;
     line.at = before;
     if (w.text[0] != '\0' && !number_of(w.text, &value))
@@ -720,35 +720,90 @@ static int load(const char *name, uint8_t *file, size_t *len)
     return !failed;
 }
 
-/* Takes a paper's parts out of a file. Is it laid out as a paper? */
-static int take_paper(const uint8_t *file, size_t len)
-{
-    size_t start;
+/* ---- is a file laid out right? ---- */
 
-    if (len < PAPER_HEADER || header(file, 0) != 1 || header(file, 1) > MOST || header(file, 2) != PAPER_HEADER
-        || header(file, 3) > MOST_SEQUENCES)
-        return 0;
-    paper.events = header(file, 1);
-    paper.sequences = header(file, 3);
-    start = PAPER_HEADER + EVENT * paper.events;
-    if (header(file, 4) != start || header(file, 5) != len || len != start + SEQUENCE * paper.sequences)
-        return 0;
-    memcpy(paper.event, file + PAPER_HEADER, EVENT * paper.events);
-    memcpy(paper.sequence, file + start, SEQUENCE * paper.sequences);
-    for (size_t i = 0; i < paper.events; i++)
-        if (get(paper.event[i], registers[S]) > paper.sequences)
-            return 0;
-    return 1;
+static uint64_t refusal_at(unsigned number, size_t offset)
+{
+    return number + ((uint64_t)offset << 16);
 }
 
-static int take_sheet(const uint8_t *file, size_t len)
+/* The fields of a paper that have a rule, in file order: the header's numbers, then the events' sequence numbers. */
+static size_t paper_field(size_t i)
 {
-    if (len < SHEET_HEADER || header(file, 0) != 1 || header(file, 1) > MOST || header(file, 2) != SHEET_HEADER
-        || len != SHEET_HEADER + ANSWER * header(file, 1))
-        return 0;
+    return i < PAPER_NUMBERS ? 2 * i : PAPER_HEADER + EVENT * (i - PAPER_NUMBERS) + registers[S].at;
+}
+
+/* Does the field keep its rule? All ahead of it must do so. */
+static int paper_field_keeps(const uint8_t *file, size_t len, size_t i)
+{
+    const size_t found = get(file, (struct field){"field", paper_field(i), 2}), sequences = header(file, 3);
+    const size_t start = PAPER_HEADER + EVENT * header(file, 1), end = start + SEQUENCE * sequences;
+
+    switch (i) {
+    case 0: return found == 1;
+    case 1: return found <= MOST;
+    case 2: return found == PAPER_HEADER;
+    case 3: return found <= MOST_SEQUENCES;
+    case 4: return found == start;
+    case 5: return found == end && len == end;
+    default: return found <= sequences;
+    }
+}
+
+static int sheet_field_keeps(const uint8_t *file, size_t len, size_t i)
+{
+    const size_t found = header(file, i);
+
+    switch (i) {
+    case 0: return found == 1;
+    case 1: return found <= MOST && len == SHEET_HEADER + ANSWER * found;
+    default: return found == SHEET_HEADER;
+    }
+}
+
+/* 0 for a file that is laid out right, else its refusal, as brinefeather_mark returns it. */
+static uint64_t paper_refusal(const uint8_t *file, size_t len)
+{
+    size_t i = 0;
+
+    if (len < PAPER_HEADER)
+        return refusal_at(BRINEFEATHER_BADPAPER, len);
+    while (i < PAPER_NUMBERS + header(file, 1) && paper_field_keeps(file, len, i))
+        i++;
+    return i < PAPER_NUMBERS + header(file, 1) ? refusal_at(BRINEFEATHER_BADPAPER, paper_field(i)) : 0;
+}
+
+static uint64_t sheet_refusal(const uint8_t *file, size_t len)
+{
+    size_t i = 0;
+
+    if (len < SHEET_HEADER)
+        return refusal_at(BRINEFEATHER_BADSHEET, len);
+    while (i < SHEET_NUMBERS && sheet_field_keeps(file, len, i))
+        i++;
+    return i < SHEET_NUMBERS ? refusal_at(BRINEFEATHER_BADSHEET, 2 * i) : 0;
+}
+
+/* Takes the parts out of a paper that is laid out right. */
+static void take_paper(const uint8_t *file)
+{
+    paper.events = header(file, 1);
+    paper.sequences = header(file, 3);
+    memcpy(paper.event, file + PAPER_HEADER, EVENT * paper.events);
+    memcpy(paper.sequence, file + PAPER_HEADER + EVENT * paper.events, SEQUENCE * paper.sequences);
+}
+
+static void take_sheet(const uint8_t *file)
+{
     sheet.answers = header(file, 1);
     memcpy(sheet.answer, file + SHEET_HEADER, ANSWER * sheet.answers);
-    return 1;
+}
+
+static void tell_place(const char *name, uint64_t refusal, const uint8_t *file, size_t len)
+{
+    fprintf(stderr, "%s: ", name);
+    place_print(stderr, refusal, file, len);
+    fputc('\n', stderr);
 }
 
 /* ---- lines that are shown ---- */
@@ -942,14 +997,14 @@ static void show_answer(struct made *m, const uint8_t *answer)
         return;
     }
     append(m, "%s", answer_kinds[kind]);
-    if (kind == REFUSED && number > 0 && number < COUNT(refusals))
-        append(m, " %s", refusals[number]);
+    if (kind == REFUSED && number > 0 && number <= BRINEFEATHER_REFUSALS)
+        append(m, " %s", brinefeather_refusal_name(number));
     else if (kind == REFUSED)
         append(m, " %u", number);
     show_results(m, answer);
 }
 
-/* ---- the four uses ---- */
+/* ---- the five uses ---- */
 
 static void print_line(void (*show)(struct made *, const uint8_t *), const uint8_t *record)
 {
@@ -989,12 +1044,16 @@ static int show_file(const char *name)
 
     if (!load(name, bytes, &len))
         return 0;
-    if (take_paper(bytes, len))
+    if (!paper_refusal(bytes, len)) {
+        take_paper(bytes);
         print_paper();
-    else if (take_sheet(bytes, len))
+    } else if (!sheet_refusal(bytes, len)) {
+        take_sheet(bytes);
         print_sheet();
-    else {
+    } else {
         fprintf(stderr, "%s: is laid out neither as a paper nor as a sheet\n", name);
+        tell_place(name, paper_refusal(bytes, len), bytes, len);
+        tell_place(name, sheet_refusal(bytes, len), bytes, len);
         return 0;
     }
     return 1;
@@ -1031,30 +1090,69 @@ static void print_side_by_side(void)
     }
 }
 
+/* Reads a file. Is it laid out right? If not, standard error says where. */
+static int load_right(const char *name, uint64_t (*refusal_of)(const uint8_t *, size_t), uint8_t *file)
+{
+    size_t len = 0;
+    uint64_t refusal;
+
+    if (!load(name, file, &len))
+        return 0;
+    refusal = refusal_of(file, len);
+    if (refusal)
+        tell_place(name, refusal, file, len);
+    return !refusal;
+}
+
 static int show_both(const char *paper_name, const char *sheet_name)
 {
     static uint8_t bytes[LONGEST + 1];
-    size_t len = 0;
 
-    if (!load(paper_name, bytes, &len))
+    if (!load_right(paper_name, paper_refusal, bytes))
         return 0;
-    if (!take_paper(bytes, len)) {
-        fprintf(stderr, "%s: is not laid out as a paper\n", paper_name);
+    take_paper(bytes);
+    if (!load_right(sheet_name, sheet_refusal, bytes))
         return 0;
-    }
-    if (!load(sheet_name, bytes, &len))
-        return 0;
-    if (!take_sheet(bytes, len)) {
-        fprintf(stderr, "%s: is not laid out as a sheet\n", sheet_name);
-        return 0;
-    }
+    take_sheet(bytes);
     print_side_by_side();
     return 1;
 }
 
+/* What mark and key print behind "refused": 15 and an offset, 16, or 17 and an offset. 0 if it is something else. */
+static uint64_t printed_refusal(char **numbers, int count)
+{
+    int64_t number, offset = 0;
+
+    if (!number_of(numbers[0], &number) || (count > 1 && !number_of(numbers[1], &offset)))
+        return 0;
+    if (number < BRINEFEATHER_BADPAPER || number > BRINEFEATHER_BADSHEET || offset < 0 || offset > LONGEST)
+        return 0;
+    return place_is_told((unsigned)number) == (count > 1) ? refusal_at((unsigned)number, (size_t)offset) : 0;
+}
+
+static int explain(uint64_t refusal, const char *name)
+{
+    static uint8_t bytes[LONGEST + 1];
+    size_t len = 0;
+
+    if (!load(name, bytes, &len))
+        return 0;
+    place_print(stdout, refusal, bytes, len);
+    putchar('\n');
+    return 1;
+}
+
+static int usage(void)
+{
+    fputs("usage: transcribe paper TEXT FILE\n       transcribe sheet TEXT FILE\n"
+          "       transcribe show FILE\n       transcribe show PAPER SHEET\n"
+          "       transcribe refused NUMBER [OFFSET] FILE\n", stderr);
+    return 0;
+}
+
 int main(int count, char **words)
 {
-    int well = 0;
+    int well;
 
     if (count == 4 && strcmp(words[1], "paper") == 0)
         well = use_text(words[2], words[3], 1);
@@ -1064,9 +1162,10 @@ int main(int count, char **words)
         well = show_file(words[2]);
     else if (count == 4 && strcmp(words[1], "show") == 0)
         well = show_both(words[2], words[3]);
+    else if ((count == 4 || count == 5) && strcmp(words[1], "refused") == 0 && printed_refusal(words + 2, count - 3))
+        well = explain(printed_refusal(words + 2, count - 3), words[count - 1]);
     else
-        fputs("usage: transcribe paper TEXT FILE\n       transcribe sheet TEXT FILE\n"
-              "       transcribe show FILE\n       transcribe show PAPER SHEET\n", stderr);
+        well = usage();
     if (fflush(stdout) != 0 || ferror(stdout))
         well = 0;
     return well ? EXIT_SUCCESS : EXIT_FAILURE;

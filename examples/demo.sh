@@ -4,8 +4,10 @@
 #   make demo PAPER=file SHEET="file .."   marks your sheets
 #   make demo PAPER=file [KEY=file]        prints the key of your paper in words, and keeps it as the file KEY
 #
-# A file that ends in .txt is in words: it is transcribed first (see transcribe(1)).
-# shellcheck disable=SC2086,SC2154 # the words of $load and of package lists are meant to be split; tools.sh gives them
+# A file that ends in .txt is in words: it is transcribed first (see transcribe(1)). Behind a refusal, the words in
+# brackets say what is wrong and where.
+# shellcheck disable=SC2086,SC2154 # the words of $load, of a refusal and of package lists are meant to be split; tools.sh
+# gives the lists
 set -eu
 root=$(realpath "$(dirname "$0")/..")
 work=$(mktemp -d)
@@ -57,11 +59,19 @@ take_all_in() {
 # program mark|key: runs it in the folder of its files.
 program() { (cd "$work" && $load "$root/target/bin/$1"); }
 
+# in_words LINE: what mark or key printed, and what a refusal means.
+in_words() {
+    local file=paper
+    [[ $1 == refused* ]] || { echo "$1"; return; }
+    [[ $1 != "refused 17 "* ]] || file=sheet
+    echo "$1 ($(transcribe $1 "$work/$file"))"
+}
+
 mark_all() {
     local number
     for number in "${!sheets[@]}"; do
         mv "$work/sheet$number" "$work/sheet"
-        echo "${sheets[number]}: $(program mark)"
+        echo "${sheets[number]}: $(in_words "$(program mark)")"
     done
 }
 
@@ -82,7 +92,7 @@ samples() {
 write_key() {
     local said
     said=$(program key)
-    if [ "$said" ]; then echo "$PAPER: $said"; return; fi
+    if [ "$said" ]; then echo "$PAPER: $(in_words "$said")"; return; fi
     echo "$PAPER: its key, $(stat -c %s "$work/key") bytes. Each event and the right answer:"
     transcribe show "$work/paper" "$work/key"
     if [ "$KEY" ]; then

@@ -18,14 +18,17 @@ use Rattle.rules.specs.declared.state.Answer.{Answer}
 use Rattle.rules.specs.declared.state.Stepped.{Stepped}
 use Rattle.rules.proofs.Walk.{answers-listed, refused-keeps}
 use Rattle.rules.proofs.States.{sound-stays}
-use Rattle.papers.specs.Layout.{eventCount, paperOf, sheetOf}
+use Rattle.papers.specs.Layout.{eventCount}
+use Rattle.papers.specs.Fields.{paperOf, sheetOf}
 use Rattle.papers.specs.Events.{eventsOf}
 use Rattle.papers.specs.Answers.{answerBytes, placesOf}
+use Rattle.papers.specs.declared.layout.Refusal.{Refusal}
+use Rattle.papers.specs.declared.layout.Refusal.the-variants.{Noroom}
 use Rattle.papers.specs.declared.layout.Read.{Read}
 use Rattle.papers.specs.declared.layout.Read.the-variants as read
 use Rattle.papers.proofs.Files.{paper-count, sheet-counts}
 use Rattle.papers.proofs.Sheets.{made-fits, made-count}
-use Rattle.marker.specs.Promises.{KeyListed, writes as keyWrites, refused as keyRefused}
+use Rattle.marker.specs.Promises.{KeyListed, writes as keyWrites, badpaper, blank, noroom}
 use Rattle.rules.specs.Play.{answersFrom, stateFrom}
 use Rattle.rules.proofs.Plays.{answers-more, state-more}
 use Rattle.marker.specs.Key.{joined, keyPlaces, keyOf, keyedFor, keyed}
@@ -86,7 +89,7 @@ sound-from s h (e ∷ es) = sound-from (stepOf s e .state) (sound-stays .next s 
 
 -- what a key comes to: nothing was written, or the whole key was
 pub data Came (p buffer : List ℕ) : Keyed × List ℕ → Type 0 where
-  refuses : (n : ℕ) → Came p buffer (key.Refused n, buffer)
+  refuses : (n : Refusal) → Came p buffer (key.Refused n, buffer)
   writes : Came p buffer (key.Written (6 + 16 * eventCount p), keyOf p ++ drop (6 + 16 * eventCount p) buffer)
 
 came : (p buffer : List ℕ) → Came p buffer (keyed p buffer)
@@ -97,9 +100,9 @@ came p buffer = go (paperOf p) refl
     go (read.Refused n) e = refuses n
     go (read.Count n) e =
         rw (paper-count p n e)
-        (cases (ltb (length buffer) (6 + 16 * eventCount p)) (λ l. rw l (refuses 18)) (λ l. rw l writes))
+        (cases (ltb (length buffer) (6 + 16 * eventCount p)) (λ l. rw l (refuses Noroom)) (λ l. rw l writes))
 
-no-byte : (p buffer : List ℕ) (n : ℕ) (after : List ℕ) {x : Keyed × List ℕ} → (key.Refused n, after) ≡ x → Came p buffer x → after ≡ buffer
+no-byte : (p buffer : List ℕ) (n : Refusal) (after : List ℕ) {x : Keyed × List ℕ} → (key.Refused n, after) ≡ x → Came p buffer x → after ≡ buffer
 no-byte p buffer n after e (refuses k) = ap (λ (x : Keyed × List ℕ). x .1) e
 no-byte p buffer n after e writes =
     let f : key.Refused n ≡ key.Written (6 + 16 * eventCount p) = ap (λ (x : Keyed × List ℕ). x .0) e in
@@ -137,15 +140,15 @@ module _ (p buffer : List ℕ) (n : ℕ) (after : List ℕ) (w : Whole p buffer 
 
 -- ---- marks
 
-paper-no-mark : (p s : List ℕ) (n : ℕ) → paperOf p ≡ read.Refused n → marked p s ≡ mark.Refused n
+paper-no-mark : (p s : List ℕ) (n : Refusal) → paperOf p ≡ read.Refused n → marked p s ≡ mark.Refused n
 unfolding marked
 paper-no-mark p s n e = rw e
 
-sheet-no-mark : (p s : List ℕ) (k n : ℕ) → paperOf p ≡ read.Count k → sheetOf s ≡ read.Refused n → marked p s ≡ mark.Refused n
+sheet-no-mark : (p s : List ℕ) (k : ℕ) (n : Refusal) → paperOf p ≡ read.Count k → sheetOf s ≡ read.Refused n → marked p s ≡ mark.Refused n
 unfolding marked
 sheet-no-mark p s k n e f = rw (e, f)
 
-no-key : (p buffer : List ℕ) (n : ℕ) → paperOf p ≡ read.Refused n → keyed p buffer ≡ (key.Refused n, buffer)
+no-key : (p buffer : List ℕ) (n : Refusal) → paperOf p ≡ read.Refused n → keyed p buffer ≡ (key.Refused n, buffer)
 unfolding keyed
 no-key p buffer n e = rw e
 
@@ -160,7 +163,9 @@ keyed-is p buffer n e h = rw (e, le-ltb (length buffer) (6 + 16 * n) h)
 
 long-most : {room n : ℕ} {x : Keyed} → KeyListed room x → x ≡ key.Written n → n ≤ 16006
 long-most {n = n} (keyWrites k a b c) e = let l : 6 + 16 * k ≡ n = cc in omega arith
-long-most (keyRefused r d) e = let z : _≡_ {A = ℕ} 0 1 = cc in absurd (omega arith)
+long-most (badpaper offset l) e = let z : _≡_ {A = ℕ} 0 1 = cc in absurd (omega arith)
+long-most blank e = let z : _≡_ {A = ℕ} 0 1 = cc in absurd (omega arith)
+long-most noroom e = let z : _≡_ {A = ℕ} 0 1 = cc in absurd (omega arith)
 
 sheet-is : (p buffer : List ℕ) (n : ℕ) (after : List ℕ) → (key.Written n, after) ≡ keyed p buffer → sheetOf (take n after) ≡ read.Count (eventCount p)
 unfolding keyOf

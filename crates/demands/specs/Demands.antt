@@ -13,9 +13,11 @@ use Rattle.rules.specs.declared.state.State.{State}
 use Rattle.rules.specs.declared.state.Event.{Event}
 use Rattle.rules.specs.declared.state.Answer.{Answer}
 use Rattle.rules.specs.declared.state.Stepped.{Stepped}
-use Rattle.papers.specs.Layout.{eventCount, paperOf, sheetOf}
+use Rattle.papers.specs.Layout.{eventCount}
+use Rattle.papers.specs.Fields.{paperOf, sheetOf}
 use Rattle.papers.specs.Events.{eventsOf}
 use Rattle.papers.specs.Answers.{answerBytes, placesOf}
+use Rattle.papers.specs.declared.layout.Refusal.{Refusal}
 use Rattle.papers.specs.declared.layout.Read.the-variants as read
 use Rattle.rules.specs.Play.{answersFrom, stateFrom}
 use Rattle.marker.specs.Mark.{rightPlaces, isPerfect}
@@ -104,10 +106,10 @@ pub record Demand1 : Type 0 where
   pub keyGiven : (p buffer : List ℕ) → (r : Keyed) × (after : List ℕ) × KeyGives p buffer r after
   pub keysListed : (p buffer : List ℕ) (r : Keyed) (after : List ℕ) → KeyGives p buffer r after → KeyListed (length buffer) r
   -- "a refused paper or sheet writes no byte of the key and yields no mark"
-  pub noByte : (p buffer : List ℕ) (n : ℕ) (after : List ℕ) → KeyGives p buffer (keyed.Refused n) after → after ≡ buffer
-  pub noKey : (p buffer : List ℕ) (n : ℕ) → paperOf p ≡ read.Refused n → (r : Keyed) (after : List ℕ) → KeyGives p buffer r after → r ≡ keyed.Refused n
-  pub paperNoMark : (p s : List ℕ) (n : ℕ) → paperOf p ≡ read.Refused n → (r : Marked) → MarkGives p s r → r ≡ marked.Refused n
-  pub sheetNoMark : (p s : List ℕ) (k n : ℕ) → paperOf p ≡ read.Count k → sheetOf s ≡ read.Refused n → (r : Marked) → MarkGives p s r → r ≡ marked.Refused n
+  pub noByte : (p buffer : List ℕ) (n : Refusal) (after : List ℕ) → KeyGives p buffer (keyed.Refused n) after → after ≡ buffer
+  pub noKey : (p buffer : List ℕ) (n : Refusal) → paperOf p ≡ read.Refused n → (r : Keyed) (after : List ℕ) → KeyGives p buffer r after → r ≡ keyed.Refused n
+  pub paperNoMark : (p s : List ℕ) (n : Refusal) → paperOf p ≡ read.Refused n → (r : Marked) → MarkGives p s r → r ≡ marked.Refused n
+  pub sheetNoMark : (p s : List ℕ) (k : ℕ) (n : Refusal) → paperOf p ≡ read.Count k → sheetOf s ≡ read.Refused n → (r : Marked) → MarkGives p s r → r ≡ marked.Refused n
 
 -- ---- demand 2
 

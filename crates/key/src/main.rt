@@ -1,6 +1,7 @@
 // Writes the key of the file `paper` to the file `key`, or prints why there is none.
 use libc::STDOUT_FILENO;
 use marker::keys::Keyed;
+use papers::layout::Refusal;
 
 // Makes the file `key` anew.
 fn save(key: &[u8]) {
@@ -16,9 +17,9 @@ fn save(key: &[u8]) {
 }
 
 // Prints the line of a refusal.
-fn report(number: u8) {
+fn report(r: Refusal) {
     let mut out = [0u8; 64];
-    let n = line::refused(number, &mut out);
+    let n = line::refused(r, &mut out);
     if !io::write_all(STDOUT_FILENO, &out[..n]) {
         os::fail(b"standard output");
     }
@@ -28,7 +29,7 @@ fn report(number: u8) {
 fn make_key(paper: &[u8], space: &mut [u8]) {
     match marker::key(paper, space) {
         Keyed::Written(n) => save(&space[..n]),
-        Keyed::Refused(n) => report(n),
+        Keyed::Refused(r) => report(r),
     }
 }
 

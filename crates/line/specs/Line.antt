@@ -10,6 +10,9 @@ use lib.Seq.{sets}
 use lib.Dec.{ltb}
 use Rattle.io.specs.Counts.{Counts}
 use Rattle.io.specs.Digits.{digits}
+use Rattle.papers.specs.Fields.{numberOf}
+use Rattle.papers.specs.declared.layout.Refusal.{Refusal}
+use Rattle.papers.specs.declared.layout.Refusal.the-variants.{Badpaper, Blank, Badsheet, Noroom}
 use Rattle.marker.specs.Mark.{isPerfect}
 use Rattle.marker.specs.declared.marks.Marked.{Marked}
 use Rattle.marker.specs.declared.marks.Marked.the-variants.{Mark, Refused}
@@ -40,16 +43,23 @@ unfoldable pub numbersOf : ℕ → ℕ → ℕ → ℕ → List ℕ
 numbersOf total right missing surplus =
     named "total " total ++ named " right " right ++ named " missing " missing ++ named " surplus " surplus
 
+-- §1: "15 and 17 .. gain the offset, printed last"
+unfoldable pub offsetText : Refusal → List ℕ
+offsetText (Badpaper offset) = named " " offset
+offsetText Blank = []
+offsetText (Badsheet offset) = named " " offset
+offsetText Noroom = []
+
 -- "A refusal prints `refused`, a space and its number."
-unfoldable pub refusedLine : ℕ → List ℕ
-refusedLine n = named "refused " n ++ ascii "\n"
+unfoldable pub refusedLine : Refusal → List ℕ
+refusedLine r = named "refused " (numberOf r) ++ offsetText r ++ ascii "\n"
 
 -- as in "Output: `total 2 right 0 missing 2 surplus 0 perfect no`."
 unfoldable pub lineOf : Marked → List ℕ
 lineOf (Mark total right missing surplus) =
     numbersOf total right missing surplus
     ++ ascii (cond (isPerfect (Mark total right missing surplus)) " perfect yes\n" " perfect no\n")
-lineOf (Refused n) = refusedLine n
+lineOf (Refused r) = refusedLine r
 
 -- the first n bytes of the buffer are the line, and the bytes after them are as they were
 pub record Printed (line before : List ℕ) (n : ℕ) (after : List ℕ) : Type 0 where

@@ -1,9 +1,11 @@
 // The line that a program prints. The longest one, with four numbers of five digits and `perfect no`, has 63 bytes.
 use marker::marks::Marked;
+use papers::layout::Refusal;
+use papers::layout::number_of;
 ghost use mathlib.Core.List.{_++_};
 ghost use Prim.Native.Nat.{_+_, _≤_};
 ghost use lib.ListN.{length};
-ghost use Rattle.line.specs.Line.{decimal, numbersOf, refusedLine, lineOf, Put, Printed};
+ghost use Rattle.line.specs.Line.{decimal, numbersOf, offsetText, refusedLine, lineOf, Put, Printed};
 
 // Puts a text into out from `at` on, and answers where it ends.
 fn put(text: &[u8], at: usize, out: &mut [u8]) -> usize
@@ -25,12 +27,27 @@ fn put_named(name: &[u8], n: u16, at: usize, out: &mut [u8; 64]) -> usize
     put(&digits[..k], start, out)
 }
 
-// Puts the line of a refusal at the start of out, and answers its length.
-pub fn refused(n: u8, out: &mut [u8; 64]) -> usize
-    ensures { λ r. ⌜ Printed (refusedLine n) (now (out .entry)) r (now (out .exit)) ⌝ }
+// Puts the offset of a refusal, if it has one, behind a space into out from `at` on, and answers where it ends.
+fn put_offset(r: Refusal, at: usize, out: &mut [u8; 64]) -> usize
+    requires { ⌜ at + 6 ≤ 64 ⌝ }
+    ensures { λ n. ⌜ n ≤ at + 6 ⌝ }
+    ensures { λ n. ⌜ Put (offsetText r) at (now (out .entry)) n (now (out .exit)) ⌝ }
 {
-    let at = put_named(b"refused ", n as u16, 0, out);
-    put(b"\n", at, out)
+    match r {
+        Refusal::Badpaper(offset) => put_named(b" ", offset, at, out),
+        Refusal::Badsheet(offset) => put_named(b" ", offset, at, out),
+        Refusal::Blank => put(b"", at, out),
+        Refusal::Noroom => put(b"", at, out),
+    }
+}
+
+// Puts the line of a refusal at the start of out, and answers its length.
+pub fn refused(r: Refusal, out: &mut [u8; 64]) -> usize
+    ensures { λ n. ⌜ Printed (refusedLine r) (now (out .entry)) n (now (out .exit)) ⌝ }
+{
+    let at = put_named(b"refused ", number_of(r) as u16, 0, out);
+    let end = put_offset(r, at, out);
+    put(b"\n", end, out)
 }
 
 // Puts the four numbers of a mark at the start of out, and answers where they end.
@@ -49,7 +66,7 @@ pub fn line(m: Marked, out: &mut [u8; 64]) -> usize
     ensures { λ r. ⌜ Printed (lineOf m) (now (out .entry)) r (now (out .exit)) ⌝ }
 {
     match m {
-        Marked::Refused(n) => refused(n, out),
+        Marked::Refused(r) => refused(r, out),
         Marked::Mark {
             total,
             right,

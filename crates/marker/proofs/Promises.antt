@@ -1,27 +1,31 @@
 -- What is promised of keys and marks. Assumes nothing.
 use Prim.Native.Nat.{ℕ, _+_, _-_, _*_, _≤_}
 use native.Mathlib.Omega.{arith}
-use mathlib.Core.Path.{_≡_, refl, ap, _∙_}
+use mathlib.Core.Path.{_≡_, refl, sym, ap, _∙_}
 use mathlib.Core.Bool.{true, false≢true}
 use mathlib.Core.List.{List, []}
 use lib.ListN.{length, length-append}
 use lib.Dec.{eqb, ltb}
 use borrow.Author.Tests.{eqb-true, eq-eqb, ltb-false}
 use Rattle.locks.specs.Lists.{isZero}
-use Rattle.locks.proofs.Tests.{picked, and-split}
+use Rattle.locks.proofs.Tests.{cases, picked, and-split}
 use Rattle.rules.specs.State.{laid, fresh}
 use Rattle.papers.specs.Bytes.{number16}
-use Rattle.papers.specs.Layout.{Refusal, numberOf, badpaper, blank, badsheet, noroom, field, eventCount, answerCount, sheetFits, sheetOf}
+use Rattle.papers.specs.Layout.{field, eventCount, answerCount, sheetFits}
+use Rattle.papers.specs.Fields.{tested, paperOf, sheetField, sheetOf}
 use Rattle.papers.specs.Events.{eventsOf}
 use Rattle.papers.specs.Answers.{sheetHeader, placesOf}
+use Rattle.papers.specs.declared.layout.Refusal.{Refusal}
+use Rattle.papers.specs.declared.layout.Refusal.the-variants.{Badpaper, Noroom}
 use Rattle.papers.specs.declared.layout.Read.{Read}
-use Rattle.papers.proofs.Files.{PaperRead, SheetRead, none, some, paper-has, paper-read, paper-counts, sheet-read, sheet-counts}
+use Rattle.papers.specs.declared.layout.Read.the-variants as read
+use Rattle.papers.proofs.Files.{PaperRead, SheetRead, broken, empty, some, paper-has, paper-read, paper-counts, sheet-read, sheet-counts}
 use Rattle.papers.proofs.Sheets.{header-long, made-count, made-fits}
 use Rattle.rules.specs.Play.{answersFrom}
 use Rattle.marker.specs.Key.{keyPlaces, joined, keyOf, keyedFor, keyed}
 use Rattle.marker.specs.Mark.{rightPlaces, markedFor, marked, isPerfect}
-use Rattle.marker.specs.Desk.{markNumber, keyNumber}
-use Rattle.marker.specs.Promises.{AllRight, PerfectExact, BlankNothing, KeyLong, KeyPerfect, MarkListed, MarksListed, KeyListed, KeysListed, NumbersDiffer, counts, writes, refused}
+use Rattle.marker.specs.Desk.{refusalNumber, markNumber, keyNumber}
+use Rattle.marker.specs.Promises.{AllRight, PerfectExact, BlankNothing, KeyLong, KeyPerfect, MarkListed, MarksListed, KeyListed, KeysListed, OneRefusal, NumbersDiffer, counts, writes, badpaper, blank, badsheet, noroom}
 use Rattle.marker.specs.declared.keys.Keyed.{Keyed}
 use Rattle.marker.specs.declared.keys.Keyed.the-variants as key
 use Rattle.marker.specs.declared.marks.Marked.{Marked}
@@ -35,8 +39,9 @@ unfolding marked keyPlaces
 perfect-right p s = go (paper-read p) (sheet-read s)
   where
     go : {x y : Read} → PaperRead p x → SheetRead s y → isPerfect (markedFor x y (rightPlaces (keyPlaces p) (placesOf s))) ≡ true → AllRight p s
-    go (none r l) y e = absurd (false≢true e)
-    go (some f k) none e = absurd (false≢true e)
+    go (broken offset m q n) y e = absurd (false≢true e)
+    go (empty h z) y e = absurd (false≢true e)
+    go (some f k) (broken offset m q n) e = absurd (false≢true e)
     go (some f k) (some g) e =
         let t = and-split (eqb (rightPlaces (keyPlaces p) (placesOf s)) (eventCount p)) (isZero (answerCount s - eventCount p)) e in
         let n = key-count p in
@@ -76,7 +81,7 @@ key-perfect p h k =
 -- ---- a blank sheet
 
 pub blank-nothing : BlankNothing
-unfolding number16 field sheetFits sheetOf marked
+unfolding number16 field tested sheetField sheetOf marked
 blank-nothing p h k =
     let r : rightPlaces (keyPlaces p) [] ≡ 0 = omega (arith, right-most (keyPlaces p) []) in
     let n : eventCount p - 0 ≡ eventCount p = omega arith in
@@ -90,8 +95,9 @@ unfolding marked
 marks-listed p s = go (paper-read p) (sheet-read s)
   where
     go : {x y : Read} → PaperRead p x → SheetRead s y → MarkListed (markedFor x y (rightPlaces (keyPlaces p) (placesOf s)))
-    go (none r l) y = refused r (λ e. omega (arith, ap numberOf e))
-    go (some f k) none = refused badsheet (λ e. omega (arith, ap numberOf e))
+    go (broken offset m q n) y = badpaper offset m
+    go (empty h z) y = blank
+    go (some f k) (broken offset m q n) = badsheet offset m
     go (some f k) (some g) =
         counts (eventCount p) (rightPlaces (keyPlaces p) (placesOf s)) (eventCount p - answerCount s) (answerCount s - eventCount p) k (f .events)
         (omega (arith, right-fits p s)) (omega arith)
@@ -101,9 +107,10 @@ unfolding keyed
 keys-listed p buffer = go (paper-read p)
   where
     go : {x : Read} → PaperRead p x → KeyListed (length buffer) (keyedFor x (keyOf p) buffer .0)
-    go (none r l) = refused r (λ e. omega (arith, ap numberOf e))
+    go (broken offset m q n) = badpaper offset m
+    go (empty h z) = blank
     go (some f k) =
-        picked (λ (r : Keyed × List ℕ). KeyListed (length buffer) (r .0)) (ltb (length buffer) (6 + 16 * eventCount p)) (λ l. refused noroom (λ e. omega (arith, ap numberOf e)))
+        picked (λ (r : Keyed × List ℕ). KeyListed (length buffer) (r .0)) (ltb (length buffer) (6 + 16 * eventCount p)) (λ l. noroom)
         (λ l. writes (eventCount p) k (f .events) (ltb-false _ _ l))
 
 -- a key that is written lies within the buffer
@@ -112,15 +119,11 @@ key-within p buffer n = go (keys-listed p buffer)
   where
     go : {k : Keyed} → KeyListed (length buffer) k → k ≡ key.Written n → n ≤ length buffer
     go (writes m a b l) e = let z : n ≡ 6 + 16 * m = cc in omega arith
-    go (refused r d) e = let z : _≡_ {A = ℕ} 0 1 = cc in absurd (omega arith)
+    go (badpaper offset m) e = let z : _≡_ {A = ℕ} 0 1 = cc in absurd (omega arith)
+    go blank e = let z : _≡_ {A = ℕ} 0 1 = cc in absurd (omega arith)
+    go noroom e = let z : _≡_ {A = ℕ} 0 1 = cc in absurd (omega arith)
 
 -- ---- the numbers for the desk
-
-small : (r : Refusal) → numberOf r ≤ 18
-small badpaper = omega arith
-small blank = omega arith
-small badsheet = omega arith
-small noroom = omega arith
 
 -- 16 bits each
 parts : (a b x y : ℕ) → x ≤ 1000 → y ≤ 1000 → a * 65536 + x ≡ b * 65536 + y → (a ≡ b) × (x ≡ y)
@@ -132,15 +135,80 @@ marks-differ (counts t r m u h i j k) (counts t' r' m' u' h' i' j' k') e =
     let c = parts (t * 65536 + r) (t' * 65536 + r') m m' (omega arith) (omega arith) (d .0) in
     let b = parts t t' r r' (omega arith) (omega arith) (c .0) in
     rw (b .0, b .1, c .1, d .1)
-marks-differ (counts t _ m u h i j k) (refused r d) e = absurd (omega (arith, small r))
-marks-differ (refused r d) (counts t _ m u h i j k) e = absurd (omega (arith, small r))
-marks-differ (refused r d) (refused q g) e = ap mark.Refused e
+marks-differ (counts t _ m u h i j k) (badpaper o l) e = absurd (omega arith)
+marks-differ (counts t _ m u h i j k) blank e = absurd (omega arith)
+marks-differ (counts t _ m u h i j k) (badsheet o l) e = absurd (omega arith)
+marks-differ (badpaper o l) (counts t _ m u h i j k) e = absurd (omega arith)
+marks-differ (badpaper o l) (badpaper o' l') e = let d : o ≡ o' = omega arith in rw d
+marks-differ (badpaper o l) blank e = absurd (omega arith)
+marks-differ (badpaper o l) (badsheet o' l') e = absurd (omega arith)
+marks-differ blank (counts t _ m u h i j k) e = absurd (omega arith)
+marks-differ blank (badpaper o l) e = absurd (omega arith)
+marks-differ blank blank e = refl
+marks-differ blank (badsheet o l) e = absurd (omega arith)
+marks-differ (badsheet o l) (counts t _ m u h i j k) e = absurd (omega arith)
+marks-differ (badsheet o l) (badpaper o' l') e = absurd (omega arith)
+marks-differ (badsheet o l) blank e = absurd (omega arith)
+marks-differ (badsheet o l) (badsheet o' l') e = let d : o ≡ o' = omega arith in rw d
 
 keys-differ : {room other : ℕ} {a b : Keyed} → KeyListed room a → KeyListed other b → keyNumber a ≡ keyNumber b → a ≡ b
 keys-differ (writes n h i j) (writes m h' i' j') e = ap key.Written e
-keys-differ (writes n h i j) (refused r d) e = absurd (omega (arith, small r))
-keys-differ (refused r d) (writes n h i j) e = absurd (omega (arith, small r))
-keys-differ (refused r d) (refused q g) e = ap key.Refused e
+keys-differ (writes n h i j) (badpaper o l) e = absurd (omega arith)
+keys-differ (writes n h i j) blank e = absurd (omega arith)
+keys-differ (writes n h i j) noroom e = absurd (omega arith)
+keys-differ (badpaper o l) (writes n h i j) e = absurd (omega arith)
+keys-differ (badpaper o l) (badpaper o' l') e = let d : o ≡ o' = omega arith in rw d
+keys-differ (badpaper o l) blank e = absurd (omega arith)
+keys-differ (badpaper o l) noroom e = absurd (omega arith)
+keys-differ blank (writes n h i j) e = absurd (omega arith)
+keys-differ blank (badpaper o l) e = absurd (omega arith)
+keys-differ blank blank e = refl
+keys-differ blank noroom e = absurd (omega arith)
+keys-differ noroom (writes n h i j) e = absurd (omega arith)
+keys-differ noroom (badpaper o l) e = absurd (omega arith)
+keys-differ noroom blank e = absurd (omega arith)
+keys-differ noroom noroom e = refl
 
 pub numbers-differ : NumbersDiffer
 numbers-differ = record { marks = λ p s q t. marks-differ (marks-listed p s) (marks-listed q t); keys = λ p b q o. keys-differ (keys-listed p b) (keys-listed q o) }
+
+-- ---- one paper, one refusal
+
+mark-refused : (p s : List ℕ) (r : Refusal) → paperOf p ≡ read.Refused r → marked p s ≡ mark.Refused r
+unfolding marked
+mark-refused p s r e = rw e
+
+key-refused : (p buffer : List ℕ) (r : Refusal) → paperOf p ≡ read.Refused r → keyed p buffer .0 ≡ key.Refused r
+unfolding keyed
+key-refused p buffer r e = rw e
+
+-- by its paper alone: neither a sheet nor a buffer brings this refusal
+mark-paper : (p s : List ℕ) (offset : ℕ) → marked p s ≡ mark.Refused (Badpaper offset) → paperOf p ≡ read.Refused (Badpaper offset)
+unfolding marked
+mark-paper p s offset = go (paper-read p) (sheet-read s)
+  where
+    go : {x y : Read} → PaperRead p x → SheetRead s y → markedFor x y (rightPlaces (keyPlaces p) (placesOf s)) ≡ mark.Refused (Badpaper offset) → x ≡ read.Refused (Badpaper offset)
+    go (broken o m q n) y e = let d : o ≡ offset = cc in rw d
+    go (empty h z) y e = let z : _≡_ {A = ℕ} 0 1 = cc in absurd (omega arith)
+    go (some f k) (broken o m q n) e = let z : _≡_ {A = ℕ} 0 1 = cc in absurd (omega arith)
+    go (some f k) (some g) e = let z : _≡_ {A = ℕ} 0 1 = cc in absurd (omega arith)
+
+key-paper : (p buffer : List ℕ) (offset : ℕ) → keyed p buffer .0 ≡ key.Refused (Badpaper offset) → paperOf p ≡ read.Refused (Badpaper offset)
+unfolding keyed
+key-paper p buffer offset = go (paper-read p)
+  where
+    go : {x : Read} → PaperRead p x → keyedFor x (keyOf p) buffer .0 ≡ key.Refused (Badpaper offset) → x ≡ read.Refused (Badpaper offset)
+    go (broken o m q n) e = let d : o ≡ offset = cc in rw d
+    go (empty h z) e = let z : _≡_ {A = ℕ} 0 1 = cc in absurd (omega arith)
+    go (some f k) e =
+        cases (ltb (length buffer) (6 + 16 * eventCount p))
+        (λ l. let d : key.Refused Noroom ≡ key.Refused (Badpaper offset) = rw l at e in let z : _≡_ {A = ℕ} 0 1 = cc in absurd (omega arith))
+        (λ l. let d : key.Written (6 + 16 * eventCount p) ≡ key.Refused (Badpaper offset) = rw l at e in let z : _≡_ {A = ℕ} 0 1 = cc in absurd (omega arith))
+
+pub one-refusal : OneRefusal
+one-refusal =
+    record {
+      same = λ p s buffer r e. (mark-refused p s r e, key-refused p buffer r e);
+      offset = λ p s buffer o. (λ e. key-refused p buffer (Badpaper o) (mark-paper p s o e), λ e. mark-refused p s (Badpaper o) (key-paper p buffer o e));
+      number = λ p s buffer r e. ap markNumber (mark-refused p s r e) ∙ sym (ap keyNumber (key-refused p buffer r e));
+    }

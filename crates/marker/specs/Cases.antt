@@ -6,11 +6,13 @@ use mathlib.Core.Bool.{Bool}
 use mathlib.Core.List.{List, [], _∷_, _++_, map}
 use lib.ListN.{replicate}
 use Rattle.rules.specs.declared.state.Answer.{Answer}
+use Rattle.papers.specs.declared.layout.Refusal.the-variants.{Badpaper, Blank, Badsheet, Noroom}
 use Rattle.rules.specs.Script.{Case}
 use Rattle.rules.specs.Script as script
 use Rattle.rules.specs.Cases as rules
 use Rattle.marker.specs.Key.{keyed}
 use Rattle.marker.specs.Mark.{marked}
+use Rattle.marker.specs.Desk.{markNumber, keyNumber}
 use Rattle.marker.specs.Promises.{blankSheet}
 use Rattle.marker.specs.declared.keys.Keyed.{Keyed}
 use Rattle.marker.specs.declared.keys.Keyed.the-variants.{Written, Refused as Unwritten}
@@ -87,27 +89,32 @@ files =
     ∷ handed "an answer missing" examplePaper (sheet 1 first) (Mark 2 1 1 0)
     ∷ handed "an answer over" examplePaper (sheet 3 (first ++ second ++ second)) (Mark 2 2 0 1)
     -- 15 badpaper; before the sheet is looked at
-    ∷ handed "an empty paper" [] blankSheet (Refused 15)
-    ∷ handed "a paper, one byte too long" (examplePaper ++ 0 ∷ []) blankSheet (Refused 15)
-    ∷ handed "a name above the count" noSuchSequence blankSheet (Refused 15)
-    ∷ handed "both empty" [] [] (Refused 15)
+    ∷ handed "an empty paper" [] blankSheet (Refused (Badpaper 0))
+    ∷ handed "a paper, one byte too long" (examplePaper ++ 0 ∷ []) blankSheet (Refused (Badpaper 10))
+    ∷ handed "a name above the count" noSuchSequence blankSheet (Refused (Badpaper 30))
+    ∷ handed "both empty" [] [] (Refused (Badpaper 0))
     -- 16 blank, with a sequence or without; before the sheet is looked at
-    ∷ handed "no events" noEvents blankSheet (Refused 16)
-    ∷ handed "a sequence and no events" oneSequence blankSheet (Refused 16)
-    ∷ handed "no events, a byte too long" (noEvents ++ 0 ∷ []) blankSheet (Refused 15)
-    ∷ handed "no events, and an empty sheet" noEvents [] (Refused 16)
+    ∷ handed "no events" noEvents blankSheet (Refused Blank)
+    ∷ handed "a sequence and no events" oneSequence blankSheet (Refused Blank)
+    ∷ handed "no events, a byte too long" (noEvents ++ 0 ∷ []) blankSheet (Refused (Badpaper 10))
+    ∷ handed "no events, and an empty sheet" noEvents [] (Refused Blank)
     -- 17 badsheet
-    ∷ handed "an empty sheet" examplePaper [] (Refused 17)
-    ∷ handed "a sheet, one byte too long" examplePaper (blankSheet ++ 0 ∷ []) (Refused 17)
+    ∷ handed "an empty sheet" examplePaper [] (Refused (Badsheet 0))
+    ∷ handed "a sheet, one byte too long" examplePaper (blankSheet ++ 0 ∷ []) (Refused (Badsheet 2))
+    ∷ handed "a sheet of another offset" examplePaper (0 ∷ 1 ∷ 0 ∷ 0 ∷ 0 ∷ 7 ∷ []) (Refused (Badsheet 4))
+    ∷ handed "a sheet of five bytes" examplePaper (0 ∷ 1 ∷ 0 ∷ 0 ∷ 0 ∷ []) (Refused (Badsheet 5))
+    -- the paper's place, not the sheet's
+    ∷ handed "a name above the count, and a sheet too long" noSuchSequence (blankSheet ++ 0 ∷ []) (Refused (Badpaper 30))
     -- a key, and what lay behind it
     ∷ lent "a key, exact room" examplePaper (replicate 38 7) (Written 38) (sheet 2 (first ++ second))
     ∷ lent "a key, more room" examplePaper (replicate 41 7) (Written 38) (sheet 2 (first ++ second ++ 7 ∷ 7 ∷ 7 ∷ []))
     ∷ lent "a key, each answer in the state that the events before it left" familyPaper (replicate 38 7) (Written 38) (sheet 2 (pidTwo ++ pidTwo))
     -- 15, then 16, then 18 noroom, a byte short of 6 + 16 x 2; the buffer as it was
-    ∷ lent "a key of an empty paper" [] (replicate 9 7) (Unwritten 15) (replicate 9 7)
-    ∷ lent "a key of a bad paper, no room" noSuchSequence [] (Unwritten 15) []
-    ∷ lent "a key of no events, no room" noEvents [] (Unwritten 16) []
-    ∷ lent "a key, a byte short" examplePaper (replicate 37 7) (Unwritten 18) (replicate 37 7)
+    ∷ lent "a key of an empty paper" [] (replicate 9 7) (Unwritten (Badpaper 0)) (replicate 9 7)
+    ∷ lent "a key of a paper, one byte too long" (examplePaper ++ 0 ∷ []) (replicate 9 7) (Unwritten (Badpaper 10)) (replicate 9 7)
+    ∷ lent "a key of a bad paper, no room" noSuchSequence [] (Unwritten (Badpaper 30)) []
+    ∷ lent "a key of no events, no room" noEvents [] (Unwritten Blank) []
+    ∷ lent "a key, a byte short" examplePaper (replicate 37 7) (Unwritten Noroom) (replicate 37 7)
     ∷ []
 
 -- (a) to (k), the slips, and more: the table of the rules; then (l) and other files
@@ -116,3 +123,35 @@ table = map played rules.table ++ files
 
 abbrev pub WorkedCases : Type 0
 WorkedCases = map comes table ≡ map should table
+
+-- ---- the desk's numbers
+
+pub record Numbered : Type 0 where
+  pub name : String
+  pub comes : ℕ
+  pub should : ℕ
+
+abbrev pub numbered : String → ℕ → ℕ → Numbered
+numbered name comes should = record { name = name; comes = comes; should = should }
+
+unfoldable pub numbers : List Numbered
+numbers =
+    -- "total, right, missing and surplus in 16 bits each, total highest"
+    numbered "a mark of a blank sheet" (markNumber (Mark 2 0 2 0)) 0x0002000000020000
+    ∷ numbered "a mark with a different number in each place" (markNumber (Mark 9 7 2 5)) 0x0009000700020005
+    -- §1: "gain the offset, .. added, times 65,536, to the desk's number"
+    ∷ numbered "badpaper at 0" (markNumber (Refused (Badpaper 0))) 15
+    ∷ numbered "badpaper at 10" (markNumber (Refused (Badpaper 10))) 655375
+    ∷ numbered "badpaper at the last place" (markNumber (Refused (Badpaper 20010))) 1311375375
+    ∷ numbered "blank" (markNumber (Refused Blank)) 16
+    ∷ numbered "badsheet at 0" (markNumber (Refused (Badsheet 0))) 17
+    ∷ numbered "badsheet at 2" (markNumber (Refused (Badsheet 2))) 131089
+    ∷ numbered "a key of one event" (keyNumber (Written 22)) 22
+    ∷ numbered "no key: badpaper at 0" (keyNumber (Unwritten (Badpaper 0))) 15
+    ∷ numbered "no key: badpaper at 10" (keyNumber (Unwritten (Badpaper 10))) 655375
+    ∷ numbered "no key: blank" (keyNumber (Unwritten Blank)) 16
+    ∷ numbered "no key: noroom" (keyNumber (Unwritten Noroom)) 18
+    ∷ []
+
+abbrev pub NumberCases : Type 0
+NumberCases = map (λ n. n .comes) numbers ≡ map (λ n. n .should) numbers

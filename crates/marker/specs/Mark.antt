@@ -4,7 +4,7 @@ use mathlib.Core.Bool.{Bool, false, cond, _&&_}
 use mathlib.Core.List.{List, [], _∷_}
 use lib.Dec.{eqb}
 use Rattle.locks.specs.Lists.{agree, isZero}
-use Rattle.papers.specs.Layout.{paperOf, sheetOf}
+use Rattle.papers.specs.Fields.{paperOf, sheetOf}
 use Rattle.papers.specs.Answers.{placesOf}
 use Rattle.papers.specs.declared.layout.Read.{Read}
 use Rattle.papers.specs.declared.layout.Read.the-variants as read
@@ -20,8 +20,8 @@ rightPlaces (x ∷ key) (y ∷ sheet) = cond (agree 16 x y) 1 0 + rightPlaces ke
 
 -- "Total is the event count; .. missing is total less the answer count and surplus the answer count less total, neither below 0"
 abbrev pub markedFor : Read → Read → ℕ → Marked
-markedFor (read.Refused n) sheet right = Refused n
-markedFor (read.Count total) (read.Refused n) right = Refused n
+markedFor (read.Refused r) sheet right = Refused r
+markedFor (read.Count total) (read.Refused r) right = Refused r
 markedFor (read.Count total) (read.Count answers) right = Mark total right (total - answers) (answers - total)
 
 -- "For files: badpaper, blank, then badsheet when marking"
@@ -31,4 +31,4 @@ marked p s = markedFor (paperOf p) (sheetOf s) (rightPlaces (keyPlaces p) (place
 -- "perfect means right is total and surplus 0"
 abbrev pub isPerfect : Marked → Bool
 isPerfect (Mark total right missing surplus) = eqb right total && isZero surplus
-isPerfect (Refused n) = false
+isPerfect (Refused r) = false

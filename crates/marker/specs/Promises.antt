@@ -5,8 +5,12 @@ use mathlib.Core.Bool.{true}
 use mathlib.Core.List.{List, [], _∷_, _++_}
 use mathlib.Core.Logic.{_↔_, _≢_}
 use lib.ListN.{length}
-use Rattle.papers.specs.Layout.{Refusal, numberOf, badsheet, noroom, eventCount, answerCount, paperFits, sheetFits}
+use Rattle.papers.specs.Layout.{eventCount, answerCount, paperFits, sheetFits}
+use Rattle.papers.specs.Fields.{paperOf}
 use Rattle.papers.specs.Answers.{placesOf}
+use Rattle.papers.specs.declared.layout.Refusal.{Refusal}
+use Rattle.papers.specs.declared.layout.Refusal.the-variants.{Badpaper, Blank, Badsheet, Noroom}
+use Rattle.papers.specs.declared.layout.Read.the-variants as read
 use Rattle.marker.specs.Key.{keyPlaces, keyOf, keyed}
 use Rattle.marker.specs.Mark.{rightPlaces, marked, isPerfect}
 use Rattle.marker.specs.Desk.{markNumber, keyNumber}
@@ -52,10 +56,12 @@ KeyLong = (p : List ℕ) → length (keyOf p) ≡ 6 + 16 * eventCount p
 abbrev pub KeyPerfect : Type 0
 KeyPerfect = (p : List ℕ) → paperFits p ≡ true → 1 ≤ eventCount p → isPerfect (marked p (keyOf p)) ≡ true
 
--- every mark is from the rules' list: counts in their ranges, or a refusal by 15, 16 or 17
+-- every mark is from the rules' list: counts in their ranges, or a refusal by 15, 16 or 17, with an offset that a paper or a sheet has
 pub data MarkListed : Marked → Type 0 where
   counts : (total right missing surplus : ℕ) → 1 ≤ total → total ≤ 1000 → right + missing ≤ total → surplus ≤ 1000 → MarkListed (mark.Mark total right missing surplus)
-  refused : (r : Refusal) → r ≢ noroom → MarkListed (mark.Refused (numberOf r))
+  badpaper : (offset : ℕ) → offset ≤ 20010 → MarkListed (mark.Refused (Badpaper offset))
+  blank : MarkListed (mark.Refused Blank)
+  badsheet : (offset : ℕ) → offset ≤ 5 → MarkListed (mark.Refused (Badsheet offset))
 
 abbrev pub MarksListed : Type 0
 MarksListed = (p s : List ℕ) → MarkListed (marked p s)
@@ -63,10 +69,18 @@ MarksListed = (p s : List ℕ) → MarkListed (marked p s)
 -- so is every answer to the writing of a key: the length for 1 to 1,000 events, which the buffer has room for, or a refusal by 15, 16 or 18
 pub data KeyListed (room : ℕ) : Keyed → Type 0 where
   writes : (n : ℕ) → 1 ≤ n → n ≤ 1000 → 6 + 16 * n ≤ room → KeyListed room (key.Written (6 + 16 * n))
-  refused : (r : Refusal) → r ≢ badsheet → KeyListed room (key.Refused (numberOf r))
+  badpaper : (offset : ℕ) → offset ≤ 20010 → KeyListed room (key.Refused (Badpaper offset))
+  blank : KeyListed room (key.Refused Blank)
+  noroom : KeyListed room (key.Refused Noroom)
 
 abbrev pub KeysListed : Type 0
 KeysListed = (p buffer : List ℕ) → KeyListed (length buffer) (keyed p buffer .0)
+
+-- §1: "its callers, the marker and the key writer pass it on": a paper that is refused has one refusal, whichever of the two is asked, and one number
+pub record OneRefusal : Type 0 where
+  pub same : (p s buffer : List ℕ) (r : Refusal) → paperOf p ≡ read.Refused r → (marked p s ≡ mark.Refused r) × (keyed p buffer .0 ≡ key.Refused r)
+  pub offset : (p s buffer : List ℕ) (offset : ℕ) → (marked p s ≡ mark.Refused (Badpaper offset)) ↔ (keyed p buffer .0 ≡ key.Refused (Badpaper offset))
+  pub number : (p s buffer : List ℕ) (r : Refusal) → paperOf p ≡ read.Refused r → markNumber (marked p s) ≡ keyNumber (keyed p buffer .0)
 
 -- "the two never meet": who has the number has the outcome
 pub record NumbersDiffer : Type 0 where

@@ -1,16 +1,31 @@
 // The routines for the C desk.
 use crate::keys::*;
 use crate::marks::*;
+use papers::layout::Refusal;
+use papers::layout::number_of;
 ghost use mathlib.Core.Path.{_≡_};
 ghost use Rattle.marker.specs.Key.{keyed};
 ghost use Rattle.marker.specs.Mark.{marked};
-ghost use Rattle.marker.specs.Desk.{markNumber, keyNumber};
+ghost use Rattle.marker.specs.Desk.{refusalNumber, markNumber, keyNumber};
+
+// The number of a refusal, with its offset in the 16 bits above, if it has one.
+fn refusal_number(r: Refusal) -> u64
+    ensures { λ n. ⌜ n ≡ refusalNumber r ⌝ }
+{
+    let number = number_of(r) as u64;
+    match r {
+        Refusal::Badpaper(offset) => number + 65536 * (offset as u64),
+        Refusal::Badsheet(offset) => number + 65536 * (offset as u64),
+        Refusal::Blank => number,
+        Refusal::Noroom => number,
+    }
+}
 
 fn mark_number(m: Marked) -> u64
     ensures { λ r. ⌜ r ≡ markNumber m ⌝ }
 {
     match m {
-        Marked::Refused(n) => n as u64,
+        Marked::Refused(r) => refusal_number(r),
         Marked::Mark {
             total,
             right,
@@ -25,7 +40,7 @@ fn key_number(k: Keyed) -> u64
     ensures { λ r. ⌜ r ≡ keyNumber k ⌝ }
 {
     match k {
-        Keyed::Refused(n) => n as u64,
+        Keyed::Refused(r) => refusal_number(r),
         Keyed::Written(length) => length as u64,
     }
 }

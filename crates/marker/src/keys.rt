@@ -5,6 +5,7 @@ use model::play;
 use papers::answer_bytes;
 use papers::header;
 use papers::layout::Read;
+use papers::layout::Refusal;
 use papers::paper;
 use rules::state::Answer;
 use rules::state::State;
@@ -21,12 +22,10 @@ ghost use Rattle.papers.specs.Answers.{answerBytes, sheetHeader};
 ghost use Rattle.rules.specs.Play.{answersFrom};
 ghost use Rattle.marker.specs.Key.{joined, keyed};
 
-const NOROOM: u8 = 18;
-
-// The key's length, or the number of the refusal.
+// The key's length, or the refusal.
 pub enum Keyed {
     Written(usize),
-    Refused(u8),
+    Refused(Refusal),
 }
 
 // Puts an answer at the start of what is left of the key.
@@ -89,11 +88,11 @@ pub fn key(p: &[u8], out: &mut [u8]) -> Keyed
     ensures { λ r. ⌜ (r, now (out .exit)) ≡ keyed (now (p .entry)) (now (out .entry)) ⌝ }
 {
     match paper(p) {
-        Read::Refused(n) => Keyed::Refused(n),
+        Read::Refused(r) => Keyed::Refused(r),
         Read::Count(n) => {
             let length = 6 + 16 * (n as usize);
             if out.len() < length {
-                return Keyed::Refused(NOROOM);
+                return Keyed::Refused(Refusal::Noroom);
             }
             put_key(p, n, out);
             Keyed::Written(length)

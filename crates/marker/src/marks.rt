@@ -5,6 +5,7 @@ use model::fresh;
 use model::play;
 use papers::answer_bytes;
 use papers::layout::Read;
+use papers::layout::Refusal;
 use papers::paper;
 use papers::place;
 use papers::sheet;
@@ -21,7 +22,7 @@ ghost use Rattle.papers.specs.Answers.{answerBytes, placesFrom};
 ghost use Rattle.rules.specs.Play.{answersFrom};
 ghost use Rattle.marker.specs.Mark.{rightPlaces, marked, isPerfect};
 
-// What a sheet is worth, or the number of the refusal.
+// What a sheet is worth, or the refusal.
 pub enum Marked {
     Mark {
         total: u16,
@@ -29,7 +30,7 @@ pub enum Marked {
         missing: u16,
         surplus: u16,
     },
-    Refused(u8),
+    Refused(Refusal),
 }
 
 // What a is above b, if it is.
@@ -81,9 +82,9 @@ pub fn mark(p: &[u8], s: &[u8]) -> Marked
     ensures { λ r. ⌜ r ≡ marked (now (p .entry)) (now (s .entry)) ⌝ }
 {
     match paper(p) {
-        Read::Refused(n) => Marked::Refused(n),
+        Read::Refused(r) => Marked::Refused(r),
         Read::Count(total) => match sheet(s) {
-            Read::Refused(n) => Marked::Refused(n),
+            Read::Refused(r) => Marked::Refused(r),
             Read::Count(answers) => {
                 Marked::Mark {
                     total: total,

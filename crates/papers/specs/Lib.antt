@@ -1,5 +1,6 @@
 pub mod Bytes
 pub mod Layout
+pub mod Fields
 pub mod Events
 pub mod Answers
 pub mod Promises

@@ -28,8 +28,8 @@ slice-aggregate-save c =
 save-requires : tie.Need-save-requires
 save-requires c κs = search needs
 
-enum-known-n-2 : tie.Need-enum-known-n-2
-enum-known-n-2 c = search needs
+enum-known-r : tie.Need-enum-known-r
+enum-known-r c = search needs
 
 report-requires : tie.Need-report-requires
 report-requires c κs = search needs
@@ -55,7 +55,7 @@ make-key-spec =
     slice-reshare-prefix-save
     slice-aggregate-save
     save-requires
-    enum-known-n-2
+    enum-known-r
     report-requires
     same-length
     returns

@@ -8,20 +8,20 @@ use Rattle.marker.specs.Desk.{markNumber}
 enum-known-m : tie.Need-enum-known-m
 enum-known-m c = search needs
 
-cast-result : tie.Need-cast-result
-cast-result c = search needs
+refusal-number-requires : tie.Need-refusal-number-requires
+refusal-number-requires c κs = search needs
 
 enum-known-m-2 : tie.Need-enum-known-m-2
 enum-known-m-2 c = search needs
 
-cast-result-2 : tie.Need-cast-result-2
-cast-result-2 c = search needs
+cast-result : tie.Need-cast-result
+cast-result c = search needs
 
 mul-result : tie.Need-mul-result
 mul-result c = search needs
 
-cast-result-3 : tie.Need-cast-result-3
-cast-result-3 c = search needs
+cast-result-2 : tie.Need-cast-result-2
+cast-result-2 c = search needs
 
 add-result : tie.Need-add-result
 add-result c = search needs
@@ -29,8 +29,8 @@ add-result c = search needs
 mul-result-2 : tie.Need-mul-result-2
 mul-result-2 c = search needs
 
-cast-result-4 : tie.Need-cast-result-4
-cast-result-4 c = search needs
+cast-result-3 : tie.Need-cast-result-3
+cast-result-3 c = search needs
 
 add-result-2 : tie.Need-add-result-2
 add-result-2 c = search needs
@@ -38,8 +38,8 @@ add-result-2 c = search needs
 mul-result-3 : tie.Need-mul-result-3
 mul-result-3 c = search needs
 
-cast-result-5 : tie.Need-cast-result-5
-cast-result-5 c = search needs
+cast-result-4 : tie.Need-cast-result-4
+cast-result-4 c = search needs
 
 add-result-3 : tie.Need-add-result-3
 add-result-3 c = search needs
@@ -55,17 +55,17 @@ mark-number-spec =
     tie.close
     (tie.spec
     enum-known-m
-    cast-result
+    refusal-number-requires
     enum-known-m-2
-    cast-result-2
+    cast-result
     mul-result
-    cast-result-3
+    cast-result-2
     add-result
     mul-result-2
-    cast-result-4
+    cast-result-3
     add-result-2
     mul-result-3
-    cast-result-5
+    cast-result-4
     add-result-3
     returns
     returns-2)

@@ -12,8 +12,8 @@ use Rattle.marker.proofs.Places.{right-least}
 paper-requires : tie.Need-paper-requires
 paper-requires c κs = search needs
 
-enum-known-n : tie.Need-enum-known-n
-enum-known-n c = search needs
+enum-known-r : tie.Need-enum-known-r
+enum-known-r c = search needs
 
 enum-known-total : tie.Need-enum-known-total
 enum-known-total c = search needs
@@ -21,8 +21,8 @@ enum-known-total c = search needs
 sheet-requires : tie.Need-sheet-requires
 sheet-requires c κs = search needs
 
-enum-known-n-2 : tie.Need-enum-known-n-2
-enum-known-n-2 c = search needs
+enum-known-r-2 : tie.Need-enum-known-r-2
+enum-known-r-2 c = search needs
 
 enum-known-answers : tie.Need-enum-known-answers
 enum-known-answers c = search needs
@@ -44,11 +44,11 @@ above-requires-2 c κs = search needs
 
 returns : tie.Need-returns
 unfolding marked
-returns c = rw (← c .before .before .before .paper .ensures, c .before .n .given .1)
+returns c = rw (← c .before .before .before .paper .ensures, c .before .r .given .1)
 
 returns-2 : tie.Need-returns-2
 unfolding marked
-returns-2 c = rw (← c .before .before .before .before .before .before .before .paper .ensures, c .before .before .before .before .before .total .given .1, ← c .before .before .before .sheet .ensures, c .before .n2 .given .1)
+returns-2 c = rw (← c .before .before .before .before .before .before .before .paper .ensures, c .before .before .before .before .before .total .given .1, ← c .before .before .before .sheet .ensures, c .before .r2 .given .1)
 
 returns-3 : tie.Need-returns-3
 unfolding marked keyPlaces
@@ -74,10 +74,10 @@ mark-spec =
     tie.close
     (tie.spec
     paper-requires
-    enum-known-n
+    enum-known-r
     enum-known-total
     sheet-requires
-    enum-known-n-2
+    enum-known-r-2
     enum-known-answers
     fresh-requires
     lesser-requires
