@@ -11,7 +11,7 @@ use Rattle.locks.specs.Lists.{isZero}
 use Rattle.locks.proofs.Tests.{cases, picked, and-split}
 use Rattle.rules.specs.State.{laid, fresh}
 use Rattle.papers.specs.Bytes.{number16}
-use Rattle.papers.specs.Layout.{field, eventCount, answerCount, sheetFits}
+use Rattle.papers.specs.Layout.{field, eventCount, answerCount}
 use Rattle.papers.specs.Fields.{tested, paperOf, sheetField, sheetOf}
 use Rattle.papers.specs.Events.{eventsOf}
 use Rattle.papers.specs.Answers.{sheetHeader, placesOf}
@@ -24,7 +24,7 @@ use Rattle.papers.proofs.Sheets.{header-long, made-count, made-fits}
 use Rattle.rules.specs.Play.{answersFrom}
 use Rattle.marker.specs.Key.{keyPlaces, joined, keyOf, keyedFor, keyed}
 use Rattle.marker.specs.Mark.{rightPlaces, markedFor, marked, isPerfect}
-use Rattle.marker.specs.Desk.{refusalNumber, markNumber, keyNumber}
+use Rattle.marker.specs.Desk.{markNumber, keyNumber}
 use Rattle.marker.specs.Promises.{AllRight, PerfectExact, BlankNothing, KeyLong, KeyPerfect, MarkListed, MarksListed, KeyListed, KeysListed, OneRefusal, NumbersDiffer, counts, writes, badpaper, blank, badsheet, noroom}
 use Rattle.marker.specs.declared.keys.Keyed.{Keyed}
 use Rattle.marker.specs.declared.keys.Keyed.the-variants as key
