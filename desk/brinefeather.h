@@ -42,8 +42,8 @@ extern "C" {
 #endif
 
 /*
- * It rises with each release that adds a routine or changes what one returns. Compile again what was compiled with
- * another: the functions below are compiled into your program, and those of version 1 know no offsets.
+ * It rises with each release that adds a routine or a refusal, or changes what a routine returns. Compile again what was
+ * compiled with another: the functions below are compiled into your program, and those of version 1 know no offsets.
  */
 #define BRINEFEATHER_VERSION 2
 
@@ -101,8 +101,9 @@ static inline size_t brinefeather_key_length(size_t events)
 
 /*
  * For what any routine returned: the refusal number alone, without its offset, or 0 when it was not refused. The two
- * never meet. A refusal is less than 28 and never 22, plus 65,536 times its offset, and less than 2^48. What is not
- * refused is at least 2^48, as a mark is (its total is at least 1), or from 28 to 65,535 or 22, as a key's length is.
+ * never meet. A refusal is a number below 28, but never 22 (the length of a key of one event), plus 65,536 times its
+ * offset; in all it is less than 2^48. What is not refused is 2^48 or more, as a mark is (its total is at least 1), or
+ * 22, or from 28 to 65,535, as a key's length is.
  */
 static inline unsigned brinefeather_refused(uint64_t n)
 {

@@ -9,11 +9,13 @@ static void print_mark(const uint8_t *paper, size_t paper_len,
     uint64_t n = brinefeather_mark(paper, paper_len, sheet, sheet_len);
     unsigned number = brinefeather_refused(n);
 
-    if (number)
+    if (number == 0)
+        printf("%u of %u right\n", brinefeather_right(n), brinefeather_total(n));
+    else if (number == BRINEFEATHER_BLANK)
+        puts("the paper has no events");
+    else
         printf("refused %u (%s), offset %u\n", number, brinefeather_refusal_name(number),
                brinefeather_offset(n));
-    else
-        printf("%u of %u right\n", brinefeather_right(n), brinefeather_total(n));
 }
 
 int main(void)

@@ -10,7 +10,6 @@
 #include "brinefeather.h"
 
 enum { PLACE_PAPER_HEADER = 12, PLACE_EVENT = 20, PLACE_SEQUENCE = 16, PLACE_SHEET_HEADER = 6, PLACE_ANSWER = 16 };
-enum { PLACE_SEQUENCE_NUMBER = 18 }; /* in an event */
 
 static inline unsigned place_number(const uint8_t *file, size_t at)
 {
@@ -49,15 +48,12 @@ static inline void place_paper_length(FILE *out, const uint8_t *paper, size_t le
             sequences, place_plural(sequences), PLACE_PAPER_HEADER + PLACE_EVENT * events + PLACE_SEQUENCE * sequences);
 }
 
-static inline void place_event(FILE *out, const uint8_t *paper, size_t len, size_t at)
+static inline void place_event(FILE *out, const uint8_t *paper, size_t at)
 {
-    const size_t first = PLACE_PAPER_HEADER + PLACE_SEQUENCE_NUMBER, event = (at - first) / PLACE_EVENT;
+    const size_t event = (at - PLACE_PAPER_HEADER) / PLACE_EVENT;
 
-    if (at < first || (at - first) % PLACE_EVENT != 0 || event >= place_number(paper, 2) || at + 2 > len)
-        fputs("no field of a paper that has a rule is there", out);
-    else
-        fprintf(out, "event %zu names sequence %u, the paper has %u", event + 1, place_number(paper, at),
-                place_number(paper, 6));
+    fprintf(out, "event %zu names sequence %u, the paper has %u", event + 1, place_number(paper, at),
+            place_number(paper, 6));
 }
 
 static inline void place_in_paper(FILE *out, const uint8_t *paper, size_t len, size_t at)
@@ -81,7 +77,7 @@ static inline void place_in_paper(FILE *out, const uint8_t *paper, size_t len, s
     else if (at == 10)
         place_paper_length(out, paper, len);
     else
-        place_event(out, paper, len, at);
+        place_event(out, paper, at);
 }
 
 static inline void place_answer_count(FILE *out, unsigned answers, size_t len)
@@ -104,11 +100,9 @@ static inline void place_in_sheet(FILE *out, const uint8_t *sheet, size_t len, s
         fprintf(out, "the version is %u; it must be 1", place_number(sheet, at));
     else if (at == 2)
         place_answer_count(out, place_number(sheet, at), len);
-    else if (at == 4)
+    else
         fprintf(out, "the header says that the answers start at %u; they must start at %d", place_number(sheet, at),
                 PLACE_SHEET_HEADER);
-    else
-        fputs("no field of a sheet that has a rule is there", out);
 }
 
 /* Badpaper and badsheet have an offset. */
@@ -117,7 +111,7 @@ static inline int place_is_told(unsigned number)
     return number == BRINEFEATHER_BADPAPER || number == BRINEFEATHER_BADSHEET;
 }
 
-/* For a refusal that brinefeather_mark returned. The file is the paper, or for badsheet the sheet. */
+/* For a refusal that brinefeather_mark returned of this file: of the paper, or for badsheet of the sheet. */
 static inline void place_print(FILE *out, uint64_t refusal, const uint8_t *file, size_t len)
 {
     const unsigned number = brinefeather_refused(refusal), offset = brinefeather_offset(refusal);

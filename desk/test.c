@@ -299,6 +299,13 @@ static const struct {
     PAPER_OFF(10, "0001 0002 000C 0001 0034 0034"), PAPER_OFF(10, "0001 0002 000C 0001 0034 0044"),
     PAPER_OFF(8, "0001 0002 000C 0000 0033 0034"), PAPER_OFF(8, "0001 0002 000C 0000 0035 0034"),
     PAPER_OFF(10, "0001 0002 000C 0000 0034 0033"), PAPER_OFF(10, "0001 0002 000C 0000 0034 0035"),
+    {"another length", "a byte over, and the header says so", "0001 0002 000C 0000 0034 0035 " EXAMPLE_EVENTS "00 ",
+        NO_ANSWERS, BADPAPER_AT(10)},
+    {"another length", "a byte over, and another version", "0000 0002 000C 0000 0034 0034 " EXAMPLE_EVENTS "00 ",
+        NO_ANSWERS, BADPAPER_AT(0)},
+    {"short and of another version", "a paper", "0002 0000 000C 0000 000C 00 ", NO_ANSWERS, BADPAPER_AT(11)},
+    {"short and of another version", "a sheet", EXAMPLE, "0002 0000 00 ", BADSHEET_AT(5)},
+    PAPER_OFF(8, "0001 0002 000C 0000 0035 0035"),
     /* right modulo 65,536; little-endian */
     PAPER_OFF(2, "0001 4002 000C 0000 0034 0034"), PAPER_OFF(6, "0001 0002 000C 1000 0034 0034"),
     PAPER_OFF(0, "0100 0200 0C00 0000 3400 3400"),

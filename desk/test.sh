@@ -284,17 +284,13 @@ by_hand() {
 
 # ---- the demo: the marks of the samples again, and a user's own files
 
-# demo_says WHAT LINE WORD..: runs the demo with these settings; it must print this line. Also_says: another line of it.
+# demo_says WHAT LINE WORD..: runs the demo with these settings; it must print this line.
 demo_says() {
     local what=$1 line=$2
     shift 2
-    env "$@" examples/demo.sh > "$work/log" 2>&1 || true
-    also_says "$what" "$line"
-}
-
-also_says() {
     tries=$((tries + 1))
-    grep -qxF -- "$2" "$work/log" || { cat "$work/log"; fail "demo, $1: '$2' is not there"; }
+    env "$@" examples/demo.sh > "$work/log" 2>&1 || true
+    grep -qxF -- "$line" "$work/log" || { cat "$work/log"; fail "demo, $what: '$line' is not there"; }
 }
 
 # The crates proved are counted, and at the end they are all of crates.txt.
@@ -312,8 +308,9 @@ demo_refusals() {
     head -c 423 examples/table/paper > "$work/cut"
     head -c 300 examples/table/key > "$work/cut.sheet"
     : > "$work/none.txt"
-    demo_says "a broken paper, marked" "$work/cut.sheet: $off" PAPER="$work/cut" SHEET="$work/cut.sheet" KEY="$work/no key"
-    also_says "a broken paper, its key" "$work/cut: $off"
+    demo_says "a broken paper, its key" "$work/cut: $off" PAPER="$work/cut" KEY="$work/no key"
+    demo_says "a broken paper, marked" "$work/cut: $off" PAPER="$work/cut" SHEET="$work/cut.sheet $work/cut.sheet" KEY="$work/no key"
+    [ "$(grep -c refused "$work/log")" = 1 ] || { cat "$work/log"; fail "demo: a broken paper is told more than once"; }
     [ ! -e "$work/no key" ] || fail "demo: a broken paper has a key"
     demo_says "a broken sheet" \
         "$work/cut.sheet: refused 17 2 (badsheet: the file has 300 bytes; with 19 answers it must have 310 (offset 2))" \

@@ -78,10 +78,24 @@ explains() {
     [ "$said" = "$words" ] || fail "refused $*: the words are: $said"
 }
 
-# said_length BYTES LENGTH: a file of so many zeros is said to have that length.
+# denies WORDS NUMBER [OFFSET] FILE: that is not the file's refusal; these words are.
+denies() {
+    local words=$1
+    shift
+    stops 1 refused "$@"
+    [ "$(< said)" = "file: that is not this file's refusal; $words" ] || fail "refused $*: it is said: $(< said)"
+}
+
+# padded HEADER BYTES: the file is this header, in printf's words, and zeros up to so many bytes.
+padded() {
+    # shellcheck disable=SC2059 # the header is a format
+    { printf "$1"; head -c "$2" /dev/zero; } | head -c "$2" > file
+}
+
+# said_length BYTES LENGTH: a paper of so many bytes is said to have that length.
 said_length() {
-    head -c "$1" /dev/zero > file
-    explains "badpaper: the length is 0 in the header and $2 in the file; with 0 events and 0 sequences it must be 12 (offset 10)" \
+    padded "$no_events" "$1"
+    explains "badpaper: the length is 12 in the header and $2 in the file; with 0 events and 0 sequences it must be 12 (offset 10)" \
         15 10 file
 }
 
@@ -231,26 +245,32 @@ for size in 1 5 11 12 13 32; do
 done
 
 # ---- refusals, as mark and key print them
+no_events='\0\1\0\0\0\14\0\0\0\14\0\14' no_answers='\0\1\0\0\0\6'
+length="badpaper: the length is 424 in the header and 423 in the file; with 19 events and 2 sequences it must be 424 (offset 10)"
 head -c 423 "$root/examples/table/paper" > file
-explains "badpaper: the length is 424 in the header and 423 in the file; with 19 events and 2 sequences it must be 424 (offset 10)" \
-    15 10 file
+explains "$length" 15 10 file
 explains "badsheet: the file has 423 bytes; with 19 answers it must have 310 (offset 2)" 17 2 file
+for words in "15 0" "15 4" "15 30" "15 1" "15 423" 16; do denies "this is:"$'\n'"file: $length" $words file; done
+cp "$root/examples/table/paper" file
+for words in "15 0" "15 4" "15 30" 16; do denies "it has none" $words file; done
+printf '\0\11' | dd of=file bs=1 seek=30 conv=notrunc status=none
+explains "badpaper: event 1 names sequence 9, the paper has 2 (offset 30)" 15 30 file
+cp "$root/examples/table/key" file
+for words in "17 0" "17 2" "17 6"; do denies "it has none" $words file; done
+padded "$no_events" 12
 explains "blank: the paper has no events" 16 file
-explains "badpaper: event 1 names sequence 0, the paper has 2 (offset 30)" 15 30 file
-for offset in 1 12 20 31 410 422 432 470; do
-    explains "badpaper: no field of a paper that has a rule is there (offset $offset)" 15 $offset file
-done
-explains "badsheet: no field of a sheet that has a rule is there (offset 6)" 17 6 file
+denies "this is:"$'\n'"file: blank: the paper has no events" 15 0 file
 said_length 21036 21036
 said_length 21037 "more than 21036"
 said_length 30000 "more than 21036"
-head -c 16006 /dev/zero > file
+padded "$no_answers" 16006
 explains "badsheet: the file has 16006 bytes; with 0 answers it must have 6 (offset 2)" 17 2 file
-head -c 16007 /dev/zero > file
+padded "$no_answers" 16007
 explains "badsheet: the file has more than 16006 bytes; with 0 answers it must have 6 (offset 2)" 17 2 file
 : > file
 explains "badpaper: the file is empty; a paper has at least 12 bytes (offset 0)" 15 0 file
-explains "badsheet: the file is empty; a sheet has at least 6 bytes (offset 4)" 17 4 file
+explains "badsheet: the file is empty; a sheet has at least 6 bytes (offset 0)" 17 0 file
+denies "this is:"$'\n'"file: badpaper: the file is empty; a paper has at least 12 bytes (offset 0)" 15 7 file
 for words in "" "15" "15 file" "16 0 file" "18 file" "12 file" "x file" "15 x file" "15 -1 file" "15 21037 file" "15 0 nofile" \
     "15 0 file file"; do
     stops 1 refused $words

@@ -1130,16 +1130,35 @@ static uint64_t printed_refusal(char **numbers, int count)
     return place_is_told((unsigned)number) == (count > 1) ? refusal_at((unsigned)number, (size_t)offset) : 0;
 }
 
+/* 0 for a file that mark and key take as a paper, or as a sheet if the number is badsheet; else its refusal. */
+static uint64_t file_refusal(const uint8_t *file, size_t len, unsigned number)
+{
+    const uint64_t refusal = number == BRINEFEATHER_BADSHEET ? sheet_refusal(file, len) : paper_refusal(file, len);
+
+    if (refusal || number == BRINEFEATHER_BADSHEET)
+        return refusal;
+    return header(file, 1) == 0 ? BRINEFEATHER_BLANK : 0;
+}
+
+/* A refusal that is not the file's would get false words. */
 static int explain(uint64_t refusal, const char *name)
 {
     static uint8_t bytes[LONGEST + 1];
     size_t len = 0;
+    uint64_t found;
 
     if (!load(name, bytes, &len))
         return 0;
-    place_print(stdout, refusal, bytes, len);
-    putchar('\n');
-    return 1;
+    found = file_refusal(bytes, len, brinefeather_refused(refusal));
+    if (found == refusal) {
+        place_print(stdout, refusal, bytes, len);
+        putchar('\n');
+        return 1;
+    }
+    fprintf(stderr, "%s: that is not this file's refusal; %s\n", name, found ? "this is:" : "it has none");
+    if (found)
+        tell_place(name, found, bytes, len);
+    return 0;
 }
 
 static int usage(void)

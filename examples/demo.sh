@@ -67,11 +67,17 @@ in_words() {
     echo "$1 ($(transcribe $1 "$work/$file"))"
 }
 
+# A line for each sheet. If the paper is refused, one line says so, and that is all.
 mark_all() {
-    local number
+    local number said
     for number in "${!sheets[@]}"; do
         mv "$work/sheet$number" "$work/sheet"
-        echo "${sheets[number]}: $(in_words "$(program mark)")"
+        said=$(program mark)
+        if [[ $said == "refused 15 "* || $said == "refused 16" ]]; then
+            echo "$PAPER: $(in_words "$said")"
+            exit
+        fi
+        echo "${sheets[number]}: $(in_words "$said")"
     done
 }
 

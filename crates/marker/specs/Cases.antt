@@ -1,4 +1,4 @@
--- The worked cases of document 01, (a) to (l), as one table. Assumes nothing.
+-- The worked cases of document 01, (a) to (l), as one table; and the desk's numbers. Assumes nothing.
 use Prim.Native.Nat.{ℕ}
 use Prim.Native.String.{String}
 use mathlib.Core.Path.{_≡_}

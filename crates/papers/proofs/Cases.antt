@@ -13,11 +13,10 @@ use Rattle.papers.specs.Bytes.{number16, number32, bytes16}
 use Rattle.papers.specs.Layout.{field, eventCount, sequenceCount, headerFits, paperFits, sheetFits}
 use Rattle.papers.specs.Events.{sequenceOf, eventAt}
 use Rattle.papers.specs.Answers.{answerBytes, sheetHeader}
-use Rattle.papers.specs.Fields.{rule, tested, firstBroken, headerRules, nameRules, paperField, paperOf, sheetField, sheetOf}
+use Rattle.papers.specs.Fields.{rule, tested, firstBroken, headerRules, nameRules, paperField, paperFor, paperOf, sheetField, sheetOf}
 use Rattle.papers.specs.Cases.{EventCases, AnswerCases, files, FileCases, places, PlaceCases, header, lastNames, LastPlace}
+use Rattle.papers.specs.declared.layout.Field.{Field}
 use Rattle.papers.specs.declared.layout.Field.the-variants.{Keeps, Broken}
-use Rattle.papers.specs.declared.layout.Refusal.the-variants.{Badpaper}
-use Rattle.papers.specs.declared.layout.Read.the-variants.{Refused}
 use Rattle.papers.proofs.Fields.{first-parts}
 
 pub event-cases : EventCases
@@ -37,7 +36,7 @@ file-cases = each-same _ _ files files-hold
 
 places-hold : Each (λ r. r .comes) (λ r. r .should) places
 unfolding number16 field tested paperField paperOf sheetField sheetOf places
-places-hold = (refl, (refl, (refl, (refl, (refl, (refl, (refl, (refl, (refl, (refl, (refl, (refl, (refl, (refl, (refl, (refl, (refl, (refl, (refl, (refl, (refl, (refl, (refl, (refl, (refl, (refl, (refl, (refl, (refl, (refl, (refl, (refl, (refl, (refl, (refl, (refl, (refl, (refl, (refl, (refl, (refl, (refl, (refl, (refl, (refl, (refl, (refl, (refl, (refl, (refl, (refl, (refl, (refl, (refl, (refl, (refl, (refl, (refl, (refl, (refl, tt))))))))))))))))))))))))))))))))))))))))))))))))))))))))))))
+places-hold = (refl, (refl, (refl, (refl, (refl, (refl, (refl, (refl, (refl, (refl, (refl, (refl, (refl, (refl, (refl, (refl, (refl, (refl, (refl, (refl, (refl, (refl, (refl, (refl, (refl, (refl, (refl, (refl, (refl, (refl, (refl, (refl, (refl, (refl, (refl, (refl, (refl, (refl, (refl, (refl, (refl, (refl, (refl, (refl, (refl, (refl, (refl, (refl, (refl, (refl, (refl, (refl, (refl, (refl, (refl, (refl, (refl, (refl, (refl, (refl, (refl, (refl, (refl, (refl, tt))))))))))))))))))))))))))))))))))))))))))))))))))))))))))))))))
 
 pub place-cases : PlaceCases
 place-cases = each-same _ _ places places-hold
@@ -68,10 +67,13 @@ module _ (head behind : List ℕ) (m : ℕ) where
       let g : j + 20 * suc n ≡ j + 20 + 20 * n = omega arith in
       rw (e, zero-kept j (omega arith), f, g) (past-zeros (j + 20) n k (omega arith))
 
-broken-name : (p : List ℕ) (n at : ℕ) → ltb (length p) 12 ≡ false → eventCount p ≡ n → firstBroken p (headerRules p) ≡ Keeps → firstBroken p (nameRules p 12 n) ≡ Broken at → paperOf p ≡ Refused (Badpaper at)
+named : (p : List ℕ) (n : ℕ) (f : Field) → ltb (length p) 12 ≡ false → eventCount p ≡ n → firstBroken p (headerRules p) ≡ Keeps → firstBroken p (nameRules p 12 n) ≡ f → paperOf p ≡ paperFor f n
 unfolding paperField paperOf
-broken-name p n at l e h k = rw (l, first-parts p (headerRules p) (nameRules p 12 (eventCount p)), h, e, k)
+named p n f l e h k = rw (l, first-parts p (headerRules p) (nameRules p 12 (eventCount p)), h, e, k)
+
+last-names : (n : ℕ) → firstBroken (lastNames n) (nameRules (lastNames n) 12 1000) ≡ firstBroken (lastNames n) (nameRules (lastNames n) 19992 1)
+last-names n = past-zeros (header 1 1000 12 0 20012 20012) (bytes16 n) 19998 0 999 1 (omega arith)
 
 pub last-place : LastPlace
 unfolding number16 field tested
-last-place = broken-name lastNames 1000 20010 refl refl refl (past-zeros (header 1 1000 12 0 20012 20012) (bytes16 1) 19998 0 999 1 (omega arith))
+last-place = record { kept = named (lastNames 0) 1000 Keeps refl refl refl (last-names 0); broken = named (lastNames 1) 1000 (Broken 20010) refl refl refl (last-names 1) }
