@@ -37,7 +37,7 @@ use Rattle.marker.specs.declared.keys.Keyed.{Keyed}
 use Rattle.marker.specs.declared.keys.Keyed.the-variants as key
 use Rattle.marker.specs.declared.marks.Marked.the-variants as mark
 use Rattle.marker.proofs.Places.{places-count, key-places}
-use Rattle.marker.proofs.Promises.{perfect-exact, marks-listed, keys-listed, key-long}
+use Rattle.marker.proofs.Promises.{perfect-exact, marks-listed, keys-listed, key-long, mark-refused}
 use Rattle.model.proofs.fresh.Met as fresh-code
 use Rattle.model.proofs.step.Met as step-code
 use Rattle.model.proofs.advance.Met as advance-code
@@ -140,10 +140,6 @@ module _ (p buffer : List ℕ) (n : ℕ) (after : List ℕ) (w : Whole p buffer 
 
 -- ---- marks
 
-paper-no-mark : (p s : List ℕ) (n : Refusal) → paperOf p ≡ read.Refused n → marked p s ≡ mark.Refused n
-unfolding marked
-paper-no-mark p s n e = rw e
-
 sheet-no-mark : (p s : List ℕ) (k : ℕ) (n : Refusal) → paperOf p ≡ read.Count k → sheetOf s ≡ read.Refused n → marked p s ≡ mark.Refused n
 unfolding marked
 sheet-no-mark p s k n e f = rw (e, f)
@@ -193,7 +189,7 @@ demand-1 =
       keysListed = λ p buffer r after g. rw (ap (λ (x : Keyed × List ℕ). x .0) g) (keys-listed p buffer);
       noByte = λ p buffer n after g. no-byte p buffer n after g (came p buffer);
       noKey = λ p buffer n e r after g. ap (λ (x : Keyed × List ℕ). x .0) (g ∙ no-key p buffer n e);
-      paperNoMark = λ p s n e r g. g ∙ paper-no-mark p s n e;
+      paperNoMark = λ p s n e r g. g ∙ mark-refused p s n e;
       sheetNoMark = λ p s k n e f r g. g ∙ sheet-no-mark p s k n e f;
     }
 

@@ -174,7 +174,7 @@ numbers-differ = record { marks = λ p s q t. marks-differ (marks-listed p s) (m
 
 -- ---- one paper, one refusal
 
-mark-refused : (p s : List ℕ) (r : Refusal) → paperOf p ≡ read.Refused r → marked p s ≡ mark.Refused r
+pub mark-refused : (p s : List ℕ) (r : Refusal) → paperOf p ≡ read.Refused r → marked p s ≡ mark.Refused r
 unfolding marked
 mark-refused p s r e = rw e
 
