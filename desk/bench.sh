@@ -1,7 +1,7 @@
 #!/usr/bin/env bash
 # Measures the archive's routines against plain C and writes docs/PERFORMANCE.md's figures and docs/performance.svg.
-# Usage: [ARCHIVE=libmarker.a] desk/bench.sh [--check] [--quick]
-#   ARCHIVE   an archive that is there already; else `rt staticlib marker` makes it
+# Usage: [ARCHIVE=libbrinefeather.a] desk/bench.sh [--check] [--quick]
+#   ARCHIVE   an archive that is there already; else `rt staticlib brinefeather` makes it
 #   --check   the exit status is 1 if a bar is missed
 #   --quick   a few seconds, less exact; writes no page
 # shellcheck disable=SC2086,SC2154 # tools.sh sets $cc_packages, $strict, $link and $run; their words are to be split
@@ -15,16 +15,16 @@ for word in "$@"; do
     case $word in
     --quick) quick=yes ;;
     --check) ;;
-    *) echo "usage: [ARCHIVE=libmarker.a] desk/bench.sh [--check] [--quick]" >&2; exit 2 ;;
+    *) echo "usage: [ARCHIVE=libbrinefeather.a] desk/bench.sh [--check] [--quick]" >&2; exit 2 ;;
     esac
 done
 
 need "$cc" $cc_packages
-archive=${ARCHIVE:-target/staticlib/libmarker.a}
+archive=${ARCHIVE:-target/staticlib/libbrinefeather.a}
 made="a given one, \`$archive\`"
 if [ -z "${ARCHIVE:-}" ]; then
-    quietly rt staticlib marker
-    made="made by \`rt staticlib marker\`"
+    quietly rt staticlib brinefeather
+    made="made by \`rt staticlib brinefeather\`"
 fi
 work=$(mktemp -d)
 trap 'rm -rf "$work"' EXIT

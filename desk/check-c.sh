@@ -12,7 +12,7 @@ cd "$(dirname "$0")/.."
 work=$(mktemp -d)
 trap 'rm -rf "$work"' EXIT
 mapfile -t files < <(find desk examples -name '*.c' | sort)
-archive=target/staticlib/libmarker.a
+archive=target/staticlib/libbrinefeather.a
 both="-std=c11 -g -O1 -fsanitize=address,undefined -fno-sanitize-recover=all"
 traps="-std=c11 -g -O1 -fsanitize=undefined -fsanitize-undefined-trap-on-error"
 stand_in="-Dbrinefeather_mark=plain_mark -Dbrinefeather_key=plain_key"

@@ -9,7 +9,7 @@ cd "$(dirname "$0")/.."
 . desk/tools.sh
 unset PAPER SHEET KEY PREFIX DESTDIR
 root=$PWD
-archive=target/staticlib/libmarker.a
+archive=target/staticlib/libbrinefeather.a
 work=$(mktemp -d)
 declare -A running
 trap 'kill "${running[@]}" 2> /dev/null || true; rm -rf "$work"' EXIT
@@ -51,7 +51,7 @@ build() {
     need pkg-config pkg-config
     need groff groff-base
     beside transcribe desk/transcribe-test.sh
-    quietly rt staticlib marker
+    quietly rt staticlib brinefeather
     quietly rt check mark key
     linked desk desk/desk.c
     $own_cc $strict -o "$work/transcribe" desk/transcribe.c

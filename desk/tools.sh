@@ -52,7 +52,7 @@ quietly() {
 
 # archive_is_new: the archive is there, and nothing that it is made of has changed since it was made.
 archive_is_new() {
-    local archive=target/staticlib/libmarker.a
+    local archive=target/staticlib/libbrinefeather.a
     [ -e $archive ] && [ -z "$(find crates crates.txt "$kit/KIT-ID" -newer $archive -print -quit)" ]
 }
 

@@ -18,6 +18,7 @@ use Rattle.rules.specs.declared.state.Answer.{Answer}
 use Rattle.rules.specs.declared.state.Stepped.{Stepped}
 use Rattle.rules.proofs.Walk.{answers-listed, refused-keeps}
 use Rattle.rules.proofs.States.{sound-stays}
+use Rattle.papers.specs.Bytes.{joined}
 use Rattle.papers.specs.Layout.{eventCount}
 use Rattle.papers.specs.Fields.{paperOf, sheetOf}
 use Rattle.papers.specs.Events.{eventsOf}
@@ -31,7 +32,7 @@ use Rattle.papers.proofs.Sheets.{made-fits, made-count}
 use Rattle.marker.specs.Promises.{KeyListed, writes as keyWrites, badpaper, blank, noroom}
 use Rattle.rules.specs.Play.{answersFrom, stateFrom}
 use Rattle.rules.proofs.Plays.{answers-more, state-more}
-use Rattle.marker.specs.Key.{joined, keyPlaces, keyOf, keyedFor, keyed}
+use Rattle.marker.specs.Key.{keyPlaces, keyOf, keyedFor, keyed}
 use Rattle.marker.specs.Mark.{rightPlaces, marked}
 use Rattle.marker.specs.declared.keys.Keyed.{Keyed}
 use Rattle.marker.specs.declared.keys.Keyed.the-variants as key
@@ -45,8 +46,8 @@ use Rattle.model.proofs.play.Met as play-code
 use Rattle.marker.proofs.key.Met as key-code
 use Rattle.marker.proofs.mark.Met as mark-code
 use Rattle.marker.proofs.perfect.Met as perfect-code
-use Rattle.marker.proofs.brinefeather_key.Met as brinefeather-key-code
-use Rattle.marker.proofs.brinefeather_mark.Met as brinefeather-mark-code
+use Rattle.brinefeather.proofs.brinefeather_key.Met as brinefeather-key-code
+use Rattle.brinefeather.proofs.brinefeather_mark.Met as brinefeather-mark-code
 use Rattle.demands.specs.Demands.{Code, StepGives, AdvanceGives, Calls, none, more, ByTheRules, Demand1, Demand2}
 
 pub code : {M : Type 1} → Code M

@@ -38,12 +38,12 @@ use Rattle.marker.proofs.key.Reads as key-promise
 use Rattle.marker.proofs.mark.Statement as mark-theorem
 use Rattle.marker.proofs.mark.Reads as mark-promise
 use Rattle.marker.proofs.perfect.Statement as perfect-theorem
-use Rattle.marker.proofs.brinefeather_key.Statement as brinefeather-key-theorem
-use Rattle.marker.proofs.brinefeather_mark.Statement as brinefeather-mark-theorem
+use Rattle.brinefeather.proofs.brinefeather_key.Statement as brinefeather-key-theorem
+use Rattle.brinefeather.proofs.brinefeather_mark.Statement as brinefeather-mark-theorem
 
 -- ---- the code
 
--- Each public routine of model and marker keeps its promise: `statement` is what the toolchain makes of the routine and of the promise that stands above it in crates/*/src.
+-- Each public routine of model, marker and brinefeather keeps its promise: `statement` is what the toolchain makes of the routine and of the promise that stands above it in crates/*/src.
 pub record Code (M : Type 1) : Type 2 where
   pub fresh : fresh-theorem.statement M
   pub step : step-theorem.statement M

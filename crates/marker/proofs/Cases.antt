@@ -9,11 +9,12 @@ use Rattle.rules.proofs.Cases.{opened}
 use Rattle.papers.specs.Bytes.{number16, number32}
 use Rattle.papers.specs.Layout.{field}
 use Rattle.papers.specs.Fields.{tested, paperField, paperOf, sheetField, sheetOf}
+use Rattle.papers.specs.Entries.{entryAt}
 use Rattle.papers.specs.Events.{sequenceOf, eventAt}
 use Rattle.papers.specs.Answers.{answerBytes, sheetHeader}
 use Rattle.marker.specs.Key.{keyPlaces, keyOf, keyed}
 use Rattle.marker.specs.Mark.{marked}
-use Rattle.marker.specs.Cases.{played, answers, comes, should, files, table, WorkedCases, numbers, NumberCases}
+use Rattle.marker.specs.Cases.{played, answers, comes, should, files, table, WorkedCases}
 
 played-hold : map comes (map played rules.table) ≡ map should (map played rules.table)
 played-hold =
@@ -21,16 +22,9 @@ played-hold =
     ∙ map-map answers script.should rules.table ∙ sym (map-map should played rules.table)
 
 files-hold : Each comes should files
-unfolding opened number16 number32 field tested paperField paperOf sheetField sheetOf sequenceOf eventAt answerBytes sheetHeader keyPlaces keyOf keyed marked files
+unfolding opened number16 number32 field tested paperField paperOf sheetField sheetOf entryAt sequenceOf eventAt answerBytes sheetHeader keyPlaces keyOf keyed marked files
 files-hold = (refl, (refl, (refl, (refl, (refl, (refl, (refl, (refl, (refl, (refl, (refl, (refl, (refl, (refl, (refl, (refl, (refl, (refl, (refl, (refl, (refl, (refl, (refl, (refl, (refl, (refl, (refl, tt)))))))))))))))))))))))))))
 
 pub worked-cases : WorkedCases
 unfolding table
 worked-cases = rw (map-append, map-append, played-hold, each-same comes should files files-hold) refl
-
-numbers-hold : Each (λ n. n .comes) (λ n. n .should) numbers
-unfolding numbers
-numbers-hold = (refl, (refl, (refl, (refl, (refl, (refl, (refl, (refl, (refl, (refl, (refl, (refl, (refl, tt)))))))))))))
-
-pub number-cases : NumberCases
-number-cases = each-same _ _ numbers numbers-hold

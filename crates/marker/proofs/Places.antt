@@ -5,24 +5,26 @@ use mathlib.Core.Path.{_≡_, refl, sym, ap, _∙_}
 use mathlib.Core.Bool.{true, cond}
 use mathlib.Core.Logic.{_≢_}
 use native.Mathlib.Nat.{zero-add, add-assoc}
-use mathlib.Core.List.{List, [], _∷_, _++_, map, append-assoc}
-use lib.ListN.{length, length-append}
+use mathlib.Core.List.{List, [], _∷_, _++_, map, append-nil}
+use lib.ListN.{length}
 use lib.Seq.{ext-getD}
-use Rattle.locks.specs.Lists.{agree}
+use borrow.Author.Tests.{eq-eqb}
+use Rattle.locks.specs.Lists.{agree, all}
 use Rattle.locks.proofs.Tests.{cases, picked, off}
+use Rattle.locks.proofs.Lists.{all-of-map}
 use Rattle.locks.proofs.Loops.{agree-self, agree-at}
 use Rattle.rules.specs.State.{laid, fresh}
 use Rattle.rules.specs.Step.{stepOf}
 use Rattle.rules.specs.declared.state.State.{State}
 use Rattle.rules.specs.declared.state.Answer.{Answer}
-use Rattle.papers.specs.Bytes.{run}
+use Rattle.papers.specs.Bytes.{run, sixteensFrom, joined, isSixteen}
 use Rattle.papers.specs.Layout.{eventCount, answerCount}
 use Rattle.papers.specs.Events.{eventAt, eventsFrom, eventsOf}
-use Rattle.papers.specs.Answers.{answerBytes, sheetHeader, placesFrom, placesOf}
-use Rattle.papers.proofs.Runs.{run-part}
+use Rattle.papers.specs.Answers.{answerBytes, sheetHeader, placesOf}
+use Rattle.papers.proofs.Runs.{sixteens-count, joined-long, sixteens-back}
 use Rattle.papers.proofs.Sheets.{header-long, answer-long, made-count}
 use Rattle.rules.specs.Play.{answersFrom}
-use Rattle.marker.specs.Key.{keyPlaces, joined, keyOf}
+use Rattle.marker.specs.Key.{keyPlaces, keyOf}
 use Rattle.marker.specs.Mark.{rightPlaces}
 use Rattle.marker.specs.Promises.{PlacesCount}
 
@@ -36,16 +38,12 @@ pub key-count : (p : List ℕ) → length (keyPlaces p) ≡ eventCount p
 unfolding keyPlaces
 key-count p = answers-count (laid fresh) p 12 (eventCount p)
 
-pub sheet-count : (t : List ℕ) (from n : ℕ) → length (placesFrom t from n) ≡ n
-sheet-count t from zero = refl
-sheet-count t from (suc n) = ap suc (sheet-count t (from + 16) n)
-
 -- ---- how many are right
 
 -- places that only one of the two has are not right
 pub right-least : (s : State) (p t : List ℕ) (at from n a : ℕ)
-    → rightPlaces (map answerBytes (answersFrom s (eventsFrom p at n))) (placesFrom t from a)
-    ≡ rightPlaces (map answerBytes (answersFrom s (eventsFrom p at (min n a)))) (placesFrom t from (min n a))
+    → rightPlaces (map answerBytes (answersFrom s (eventsFrom p at n))) (sixteensFrom t from a)
+    ≡ rightPlaces (map answerBytes (answersFrom s (eventsFrom p at (min n a)))) (sixteensFrom t from (min n a))
 right-least s p t at from zero a = let e : min 0 a ≡ 0 = omega arith in rw e
 right-least s p t at from (suc n) zero = let e : min (suc n) 0 ≡ 0 = omega arith in rw e
 right-least s p t at from (suc n) (suc a) =
@@ -60,7 +58,7 @@ right-most (x ∷ xs) (y ∷ ys) =
     picked (λ n. n + rightPlaces xs ys ≤ min (suc (length xs)) (suc (length ys))) (agree 16 x y) (λ e. omega arith) (λ e. omega arith)
 
 pub right-fits : (p s : List ℕ) → rightPlaces (keyPlaces p) (placesOf s) ≤ min (eventCount p) (answerCount s)
-right-fits p s = rw (key-count p, sheet-count s 6 (answerCount s)) at (right-most (keyPlaces p) (placesOf s))
+right-fits p s = rw (key-count p, sixteens-count s 6 (answerCount s)) at (right-most (keyPlaces p) (placesOf s))
 
 pub right-self : (xs : List (List ℕ)) → rightPlaces xs xs ≡ length xs
 right-self [] = refl
@@ -88,31 +86,30 @@ pub places-count : PlacesCount
 places-count = record { parts = right-parts; right = λ x. right-self (x ∷ []); wrong = right-wrong; missing = right-missing; over = λ over. refl }
 
 -- where all are right, they are the same
-pub right-all : (xs : List Answer) (t : List ℕ) (from n : ℕ) → n ≤ length (map answerBytes xs) → rightPlaces (map answerBytes xs) (placesFrom t from n) ≡ length (map answerBytes xs)
-    → placesFrom t from n ≡ map answerBytes xs
+pub right-all : (xs : List Answer) (t : List ℕ) (from n : ℕ) → n ≤ length (map answerBytes xs) → rightPlaces (map answerBytes xs) (sixteensFrom t from n) ≡ length (map answerBytes xs)
+    → sixteensFrom t from n ≡ map answerBytes xs
 right-all [] t from zero l h = refl
 right-all [] t from (suc n) l h = absurd (omega arith)
 right-all (a ∷ xs) t from zero l h = absurd (omega arith)
 right-all (a ∷ xs) t from (suc n) l h =
     cases (agree 16 (answerBytes a) (run t from 16))
     (λ e. let r = rw e at h in rw (same a t from e, right-all xs t (from + 16) n (omega arith) (omega arith)))
-    (λ e. let r = rw e at h in absurd (omega (arith, right-most (map answerBytes xs) (placesFrom t (from + 16) n))))
+    (λ e. let r = rw e at h in absurd (omega (arith, right-most (map answerBytes xs) (sixteensFrom t (from + 16) n))))
 
 -- ---- the places of a key that is handed in as a sheet
 
-pub joined-long : (xs : List Answer) → length (joined (map answerBytes xs)) ≡ 16 * length (map answerBytes xs)
-joined-long [] = refl
-joined-long (a ∷ xs) = rw (length-append, answer-long a, joined-long xs) (omega arith)
+answers-sixteen : (xs : List Answer) → all isSixteen (map answerBytes xs) ≡ true
+answers-sixteen xs = all-of-map isSixteen answerBytes (λ a. true) (λ a h. eq-eqb (length (answerBytes a)) 16 (answer-long a)) xs (all-true xs)
+  where
+    all-true : (ys : List Answer) → all (λ a. true) ys ≡ true
+    all-true [] = refl
+    all-true (a ∷ ys) = all-true ys
 
-places-joined : (h : List ℕ) (xs : List Answer) → placesFrom (h ++ joined (map answerBytes xs)) (length h) (length (map answerBytes xs)) ≡ map answerBytes xs
-places-joined h [] = refl
-places-joined h (a ∷ xs) =
-    let e = rw (append-assoc, length-append, answer-long a) at (places-joined (h ++ answerBytes a) xs) in
-    let f = rw (answer-long a) at (run-part h (answerBytes a) (joined (map answerBytes xs))) in
-    rw (f, e)
+pub answers-long : (xs : List Answer) → length (joined (map answerBytes xs)) ≡ 16 * length (map answerBytes xs)
+answers-long xs = joined-long (map answerBytes xs) (answers-sixteen xs)
 
 pub key-places : (p : List ℕ) → placesOf (keyOf p) ≡ keyPlaces p
 unfolding keyOf keyPlaces
 key-places p =
-    let e = rw (key-count p, header-long (eventCount p)) at (places-joined (sheetHeader (eventCount p)) (answersFrom (laid fresh) (eventsOf p))) in
+    let e = rw (key-count p, header-long (eventCount p), append-nil (joined (keyPlaces p))) at (sixteens-back (sheetHeader (eventCount p)) [] (keyPlaces p) (answers-sixteen (answersFrom (laid fresh) (eventsOf p)))) in
     rw (made-count (eventCount p) (joined (keyPlaces p))) e

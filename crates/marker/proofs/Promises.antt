@@ -1,7 +1,7 @@
 -- What is promised of keys and marks. Assumes nothing.
 use Prim.Native.Nat.{ℕ, _+_, _-_, _*_, _≤_}
 use native.Mathlib.Omega.{arith}
-use mathlib.Core.Path.{_≡_, refl, sym, ap, _∙_}
+use mathlib.Core.Path.{_≡_, refl, _∙_}
 use mathlib.Core.Bool.{true, false≢true}
 use mathlib.Core.List.{List, []}
 use lib.ListN.{length, length-append}
@@ -10,7 +10,7 @@ use borrow.Author.Tests.{eqb-true, eq-eqb, ltb-false}
 use Rattle.locks.specs.Lists.{isZero}
 use Rattle.locks.proofs.Tests.{cases, picked, and-split}
 use Rattle.rules.specs.State.{laid, fresh}
-use Rattle.papers.specs.Bytes.{number16}
+use Rattle.papers.specs.Bytes.{number16, joined}
 use Rattle.papers.specs.Layout.{field, eventCount, answerCount}
 use Rattle.papers.specs.Fields.{tested, paperOf, sheetField, sheetOf}
 use Rattle.papers.specs.Events.{eventsOf}
@@ -22,15 +22,13 @@ use Rattle.papers.specs.declared.layout.Read.the-variants as read
 use Rattle.papers.proofs.Files.{PaperRead, SheetRead, broken, empty, some, paper-has, paper-read, paper-counts, sheet-read, sheet-counts}
 use Rattle.papers.proofs.Sheets.{header-long, made-count, made-fits}
 use Rattle.rules.specs.Play.{answersFrom}
-use Rattle.marker.specs.Key.{keyPlaces, joined, keyOf, keyedFor, keyed}
+use Rattle.marker.specs.Key.{keyPlaces, keyOf, keyedFor, keyed}
 use Rattle.marker.specs.Mark.{rightPlaces, markedFor, marked, isPerfect}
-use Rattle.marker.specs.Desk.{markNumber, keyNumber}
-use Rattle.marker.specs.Promises.{AllRight, PerfectExact, BlankNothing, KeyLong, KeyPerfect, MarkListed, MarksListed, KeyListed, KeysListed, OneRefusal, NumbersDiffer, counts, writes, badpaper, blank, badsheet, noroom}
+use Rattle.marker.specs.Promises.{AllRight, PerfectExact, BlankNothing, KeyLong, KeyPerfect, MarkListed, MarksListed, KeyListed, KeysListed, OneRefusal, counts, writes, badpaper, blank, badsheet, noroom}
 use Rattle.marker.specs.declared.keys.Keyed.{Keyed}
 use Rattle.marker.specs.declared.keys.Keyed.the-variants as key
-use Rattle.marker.specs.declared.marks.Marked.{Marked}
 use Rattle.marker.specs.declared.marks.Marked.the-variants as mark
-use Rattle.marker.proofs.Places.{key-count, right-most, right-fits, right-self, right-all, joined-long, key-places}
+use Rattle.marker.proofs.Places.{key-count, right-most, right-fits, right-self, right-all, answers-long, key-places}
 
 -- ---- full marks
 
@@ -64,7 +62,7 @@ perfect-exact p s = (perfect-right p s, right-perfect p s)
 
 pub key-long : KeyLong
 unfolding keyOf keyPlaces
-key-long p = length-append (sheetHeader (eventCount p)) (joined (keyPlaces p)) ∙ omega (arith, header-long (eventCount p), joined-long (answersFrom (laid fresh) (eventsOf p)), key-count p)
+key-long p = length-append (sheetHeader (eventCount p)) (joined (keyPlaces p)) ∙ omega (arith, header-long (eventCount p), answers-long (answersFrom (laid fresh) (eventsOf p)), key-count p)
 
 pub key-perfect : KeyPerfect
 unfolding keyOf
@@ -123,62 +121,13 @@ key-within p buffer n = go (keys-listed p buffer)
     go blank e = let z : _≡_ {A = ℕ} 0 1 = cc in absurd (omega arith)
     go noroom e = let z : _≡_ {A = ℕ} 0 1 = cc in absurd (omega arith)
 
--- ---- the numbers for the desk
-
--- 16 bits each
-parts : (a b x y : ℕ) → x ≤ 1000 → y ≤ 1000 → a * 65536 + x ≡ b * 65536 + y → (a ≡ b) × (x ≡ y)
-parts a b x y h k e = omega arith
-
-marks-differ : {a b : Marked} → MarkListed a → MarkListed b → markNumber a ≡ markNumber b → a ≡ b
-marks-differ (counts t r m u h i j k) (counts t' r' m' u' h' i' j' k') e =
-    let d = parts ((t * 65536 + r) * 65536 + m) ((t' * 65536 + r') * 65536 + m') u u' k k' e in
-    let c = parts (t * 65536 + r) (t' * 65536 + r') m m' (omega arith) (omega arith) (d .0) in
-    let b = parts t t' r r' (omega arith) (omega arith) (c .0) in
-    rw (b .0, b .1, c .1, d .1)
-marks-differ (counts t _ m u h i j k) (badpaper o l) e = absurd (omega arith)
-marks-differ (counts t _ m u h i j k) blank e = absurd (omega arith)
-marks-differ (counts t _ m u h i j k) (badsheet o l) e = absurd (omega arith)
-marks-differ (badpaper o l) (counts t _ m u h i j k) e = absurd (omega arith)
-marks-differ (badpaper o l) (badpaper o' l') e = let d : o ≡ o' = omega arith in rw d
-marks-differ (badpaper o l) blank e = absurd (omega arith)
-marks-differ (badpaper o l) (badsheet o' l') e = absurd (omega arith)
-marks-differ blank (counts t _ m u h i j k) e = absurd (omega arith)
-marks-differ blank (badpaper o l) e = absurd (omega arith)
-marks-differ blank blank e = refl
-marks-differ blank (badsheet o l) e = absurd (omega arith)
-marks-differ (badsheet o l) (counts t _ m u h i j k) e = absurd (omega arith)
-marks-differ (badsheet o l) (badpaper o' l') e = absurd (omega arith)
-marks-differ (badsheet o l) blank e = absurd (omega arith)
-marks-differ (badsheet o l) (badsheet o' l') e = let d : o ≡ o' = omega arith in rw d
-
-keys-differ : {room other : ℕ} {a b : Keyed} → KeyListed room a → KeyListed other b → keyNumber a ≡ keyNumber b → a ≡ b
-keys-differ (writes n h i j) (writes m h' i' j') e = ap key.Written e
-keys-differ (writes n h i j) (badpaper o l) e = absurd (omega arith)
-keys-differ (writes n h i j) blank e = absurd (omega arith)
-keys-differ (writes n h i j) noroom e = absurd (omega arith)
-keys-differ (badpaper o l) (writes n h i j) e = absurd (omega arith)
-keys-differ (badpaper o l) (badpaper o' l') e = let d : o ≡ o' = omega arith in rw d
-keys-differ (badpaper o l) blank e = absurd (omega arith)
-keys-differ (badpaper o l) noroom e = absurd (omega arith)
-keys-differ blank (writes n h i j) e = absurd (omega arith)
-keys-differ blank (badpaper o l) e = absurd (omega arith)
-keys-differ blank blank e = refl
-keys-differ blank noroom e = absurd (omega arith)
-keys-differ noroom (writes n h i j) e = absurd (omega arith)
-keys-differ noroom (badpaper o l) e = absurd (omega arith)
-keys-differ noroom blank e = absurd (omega arith)
-keys-differ noroom noroom e = refl
-
-pub numbers-differ : NumbersDiffer
-numbers-differ = record { marks = λ p s q t. marks-differ (marks-listed p s) (marks-listed q t); keys = λ p b q o. keys-differ (keys-listed p b) (keys-listed q o) }
-
 -- ---- one paper, one refusal
 
 pub mark-refused : (p s : List ℕ) (r : Refusal) → paperOf p ≡ read.Refused r → marked p s ≡ mark.Refused r
 unfolding marked
 mark-refused p s r e = rw e
 
-key-refused : (p buffer : List ℕ) (r : Refusal) → paperOf p ≡ read.Refused r → keyed p buffer .0 ≡ key.Refused r
+pub key-refused : (p buffer : List ℕ) (r : Refusal) → paperOf p ≡ read.Refused r → keyed p buffer .0 ≡ key.Refused r
 unfolding keyed
 key-refused p buffer r e = rw e
 
@@ -210,5 +159,4 @@ one-refusal =
     record {
       same = λ p s buffer r e. (mark-refused p s r e, key-refused p buffer r e);
       offset = λ p s buffer o. (λ e. key-refused p buffer (Badpaper o) (mark-paper p s o e), λ e. mark-refused p s (Badpaper o) (key-paper p buffer o e));
-      number = λ p s buffer r e. ap markNumber (mark-refused p s r e) ∙ sym (ap keyNumber (key-refused p buffer r e));
     }

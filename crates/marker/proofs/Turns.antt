@@ -11,10 +11,9 @@ use Rattle.rules.specs.declared.state.Event.{Event}
 use Rattle.rules.specs.declared.state.Answer.{Answer}
 use Rattle.rules.proofs.Plays.{answers-count}
 use Rattle.locks.specs.Lists.{padded}
-use Rattle.papers.specs.Bytes.{run}
+use Rattle.papers.specs.Bytes.{run, sixteensFrom}
 use Rattle.papers.specs.Events.{eventAt, eventsFrom}
-use Rattle.papers.specs.Answers.{answerBytes, placesFrom}
-use Rattle.marker.specs.Key.{joined}
+use Rattle.papers.specs.Answers.{answerBytes}
 use Rattle.rules.specs.Play.{answersFrom, noAnswer, stateFrom}
 
 -- the places of the n - i events from the one at hand on
@@ -34,23 +33,19 @@ events-more p at (suc m) k =
 pub events-end : (p : List ℕ) (at m : ℕ) → eventsFrom p at (m + 1) ≡ eventsFrom p at m ++ eventAt p (at + 20 * m) ∷ []
 events-end p at m = events-more p at m 1
 
-places-more : (s : List ℕ) (at m k : ℕ) → placesFrom s at (m + k) ≡ placesFrom s at m ++ placesFrom s (at + 16 * m) k
+places-more : (s : List ℕ) (at m k : ℕ) → sixteensFrom s at (m + k) ≡ sixteensFrom s at m ++ sixteensFrom s (at + 16 * m) k
 places-more s at zero k = let e : 0 + k ≡ k = omega arith in let f : at + 16 * 0 ≡ at = omega arith in rw (e, f)
 places-more s at (suc m) k =
     let e : suc m + k ≡ suc (m + k) = omega arith in
     let f : at + 16 * suc m ≡ at + 16 + 16 * m = omega arith in
     rw (e, f, places-more s (at + 16) m k)
 
-pub places-end : (s : List ℕ) (at m : ℕ) → placesFrom s at (m + 1) ≡ placesFrom s at m ++ run s (at + 16 * m) 16 ∷ []
+pub places-end : (s : List ℕ) (at m : ℕ) → sixteensFrom s at (m + 1) ≡ sixteensFrom s at m ++ run s (at + 16 * m) 16 ∷ []
 places-end s at m = places-more s at m 1
 
 answers-both : (t : State) (es fs : List Event) → answersFrom t (es ++ fs) ≡ answersFrom t es ++ answersFrom (stateFrom t es) fs
 answers-both t [] fs = refl
 answers-both t (e ∷ es) fs = rw (answers-both (stepOf t e .state) es fs)
-
-pub joined-both : (xs ys : List (List ℕ)) → joined (xs ++ ys) ≡ joined xs ++ joined ys
-joined-both [] ys = refl
-joined-both (x ∷ xs) ys = rw (joined-both xs ys, append-assoc)
 
 -- the answers of a part, in the array that holds them
 part-answers : (t : State) (es : List Event) (m : ℕ) (xs : List Answer) → length es ≡ m → xs ≡ padded 16 noAnswer (answersFrom t es) → take m xs ≡ answersFrom t es
@@ -78,7 +73,7 @@ pub played : (t : State) (p : List ℕ) (i m : ℕ) (es : List Event) (xs : List
 played t p i m es xs u e f g =
     (part-answers t (eventsFrom p (12 + 20 * i) m) m xs (events-count p (12 + 20 * i) m) (rw e at f), rw e at g)
 
-pub sheet-more : (s : List ℕ) (n i m : ℕ) → i + m ≤ n → placesFrom s (6 + 16 * i) (n - i) ≡ placesFrom s (6 + 16 * i) m ++ placesFrom s (6 + 16 * (i + m)) (n - (i + m))
+pub sheet-more : (s : List ℕ) (n i m : ℕ) → i + m ≤ n → sixteensFrom s (6 + 16 * i) (n - i) ≡ sixteensFrom s (6 + 16 * i) m ++ sixteensFrom s (6 + 16 * (i + m)) (n - (i + m))
 sheet-more s n i m h =
     let e : n - i ≡ m + (n - (i + m)) = omega arith in
     let f : 6 + 16 * (i + m) ≡ 6 + 16 * i + 16 * m = omega arith in

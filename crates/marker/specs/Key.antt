@@ -6,6 +6,7 @@ use lib.ListN.{length, drop}
 use lib.Dec.{ltb}
 use Rattle.rules.specs.State.{laid, fresh}
 use Rattle.rules.specs.Play.{answersFrom}
+use Rattle.papers.specs.Bytes.{joined}
 use Rattle.papers.specs.Layout.{eventCount}
 use Rattle.papers.specs.Fields.{paperOf}
 use Rattle.papers.specs.Events.{eventsOf}
@@ -19,11 +20,6 @@ use Rattle.marker.specs.declared.keys.Keyed.the-variants.{Written, Refus
 -- "to the first in the fresh state": the answers' bytes, place by place
 unfoldable pub keyPlaces : List ℕ → List (List ℕ)
 keyPlaces p = map answerBytes (answersFrom (laid fresh) (eventsOf p))
-
--- one after another
-abbrev pub joined : List (List ℕ) → List ℕ
-joined [] = []
-joined (x ∷ xs) = x ++ joined xs
 
 -- "A key is a sheet with one answer per event, in order"
 unfoldable pub keyOf : List ℕ → List ℕ

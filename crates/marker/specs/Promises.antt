@@ -13,7 +13,6 @@ use Rattle.papers.specs.declared.layout.Refusal.the-variants.{Badpaper, Blank, 
 use Rattle.papers.specs.declared.layout.Read.the-variants as read
 use Rattle.marker.specs.Key.{keyPlaces, keyOf, keyed}
 use Rattle.marker.specs.Mark.{rightPlaces, marked, isPerfect}
-use Rattle.marker.specs.Desk.{markNumber, keyNumber}
 use Rattle.marker.specs.declared.keys.Keyed.{Keyed}
 use Rattle.marker.specs.declared.keys.Keyed.the-variants as key
 use Rattle.marker.specs.declared.marks.Marked.{Marked}
@@ -76,13 +75,7 @@ pub data KeyListed (room : ℕ) : Keyed → Type 0 where
 abbrev pub KeysListed : Type 0
 KeysListed = (p buffer : List ℕ) → KeyListed (length buffer) (keyed p buffer .0)
 
--- §1: "its callers, the marker and the key writer pass it on": a paper that is refused has one refusal, whichever of the two is asked, and one number
+-- §1: "its callers, the marker and the key writer pass it on": a paper that is refused has one refusal, whichever of the two is asked
 pub record OneRefusal : Type 0 where
   pub same : (p s buffer : List ℕ) (r : Refusal) → paperOf p ≡ read.Refused r → (marked p s ≡ mark.Refused r) × (keyed p buffer .0 ≡ key.Refused r)
   pub offset : (p s buffer : List ℕ) (offset : ℕ) → (marked p s ≡ mark.Refused (Badpaper offset)) ↔ (keyed p buffer .0 ≡ key.Refused (Badpaper offset))
-  pub number : (p s buffer : List ℕ) (r : Refusal) → paperOf p ≡ read.Refused r → markNumber (marked p s) ≡ keyNumber (keyed p buffer .0)
-
--- "the two never meet": who has the number has the outcome
-pub record NumbersDiffer : Type 0 where
-  pub marks : (p s q t : List ℕ) → markNumber (marked p s) ≡ markNumber (marked q t) → marked p s ≡ marked q t
-  pub keys : (p buffer q other : List ℕ) → keyNumber (keyed p buffer .0) ≡ keyNumber (keyed q other .0) → keyed p buffer .0 ≡ keyed q other .0

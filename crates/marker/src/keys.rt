@@ -17,10 +17,11 @@ ghost use lib.ListN.{length, take, drop};
 ghost use Rattle.rules.specs.State.{laid};
 ghost use Rattle.rules.specs.State.{fresh as State·fresh};
 ghost use Rattle.rules.specs.Sound.{sound};
+ghost use Rattle.papers.specs.Bytes.{joined};
 ghost use Rattle.papers.specs.Events.{eventsFrom};
 ghost use Rattle.papers.specs.Answers.{answerBytes, sheetHeader};
 ghost use Rattle.rules.specs.Play.{answersFrom};
-ghost use Rattle.marker.specs.Key.{joined, keyed};
+ghost use Rattle.marker.specs.Key.{keyed};
 
 // The key's length, or the refusal.
 pub enum Keyed {

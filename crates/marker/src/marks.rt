@@ -17,8 +17,9 @@ ghost use mathlib.Core.List.{map};
 ghost use Prim.Native.Nat.{_+_, _-_, _*_, _≤_, min};
 ghost use lib.ListN.{take};
 ghost use Rattle.rules.specs.Sound.{sound};
+ghost use Rattle.papers.specs.Bytes.{sixteensFrom};
 ghost use Rattle.papers.specs.Events.{eventsFrom};
-ghost use Rattle.papers.specs.Answers.{answerBytes, placesFrom};
+ghost use Rattle.papers.specs.Answers.{answerBytes};
 ghost use Rattle.rules.specs.Play.{answersFrom};
 ghost use Rattle.marker.specs.Mark.{rightPlaces, marked, isPerfect};
 
@@ -43,7 +44,7 @@ fn above(a: u16, b: u16) -> u16
 // How many of the first m answers stand in the sheet's places from place i on.
 fn right_few(answers: [Answer; 16], sheet: &[u8], i: u16, m: u16) -> u16
     requires { ⌜ (m ≤ 16) × (i + m ≤ 65535) ⌝ }
-    ensures { λ r. ⌜ r ≡ rightPlaces (map answerBytes (take m answers)) (placesFrom (now (sheet .entry)) (6 + 16 * i) m) ⌝ }
+    ensures { λ r. ⌜ r ≡ rightPlaces (map answerBytes (take m answers)) (sixteensFrom (now (sheet .entry)) (6 + 16 * i) m) ⌝ }
 {
     let mut right: u16 = 0;
     let mut k: u16 = 0;
@@ -60,7 +61,7 @@ fn right_few(answers: [Answer; 16], sheet: &[u8], i: u16, m: u16) -> u16
 // In how many of the first n places the sheet has the answer to the paper's event, the first given in the state s.
 fn right_places(mut s: State, p: &[u8], sheet: &[u8], n: u16) -> u16
     requires { ⌜ sound s ≡ true ⌝ }
-    ensures { λ r. ⌜ r ≡ rightPlaces (map answerBytes (answersFrom s (eventsFrom (now (p .entry)) 12 n))) (placesFrom (now (sheet .entry)) 6 n) ⌝ }
+    ensures { λ r. ⌜ r ≡ rightPlaces (map answerBytes (answersFrom s (eventsFrom (now (p .entry)) 12 n))) (sixteensFrom (now (sheet .entry)) 6 n) ⌝ }
 {
     let mut right: u16 = 0;
     let mut i: u16 = 0;

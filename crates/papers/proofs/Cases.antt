@@ -11,6 +11,7 @@ use borrow.Author.Tests.{le-leb}
 use Rattle.locks.proofs.Named.{Each, each-same}
 use Rattle.papers.specs.Bytes.{number16, number32, bytes16}
 use Rattle.papers.specs.Layout.{field, eventCount, sequenceCount, headerFits, paperFits, sheetFits}
+use Rattle.papers.specs.Entries.{entryAt}
 use Rattle.papers.specs.Events.{sequenceOf, eventAt}
 use Rattle.papers.specs.Answers.{answerBytes, sheetHeader}
 use Rattle.papers.specs.Fields.{rule, tested, firstBroken, headerRules, nameRules, paperField, paperFor, paperOf, sheetField, sheetOf}
@@ -20,7 +21,7 @@ use Rattle.papers.specs.declared.layout.Field.the-variants.{Keeps, Broke
 use Rattle.papers.proofs.Fields.{first-parts}
 
 pub event-cases : EventCases
-unfolding number16 number32 sequenceOf eventAt
+unfolding number16 number32 entryAt sequenceOf eventAt
 event-cases = refl
 
 pub answer-cases : AnswerCases

@@ -1,5 +1,6 @@
 // The events of a paper.
 use crate::bytes::*;
+use crate::entries::entry_at;
 use rules::state::Event;
 ghost use mathlib.Core.Path.{_≡_};
 ghost use Prim.Native.Nat.{_+_, _*_};
@@ -21,19 +22,18 @@ pub fn event(p: &[u8], i: u16) -> Event
     ensures { λ r. ⌜ r ≡ eventAt (now (p .entry)) (12 + 20 * i) ⌝ }
 {
     let at = 12 + 20 * (i as u32);
-    let from = at as usize;
-    let n = number(p, at + 18);
-    let seq = sequence(p, n);
+    let e = entry_at(p, at);
+    let seq = sequence(p, e.sequence);
     Event {
-        kind: byte(p, from),
-        call: byte(p, from + 1),
-        caller: number(p, at + 2),
-        d0: number(p, at + 4),
-        d1: number(p, at + 6),
-        d2: number(p, at + 8),
-        d3: long_number(p, at + 10),
-        a0: long_number(p, at + 14),
-        named: n != 0,
+        kind: e.kind,
+        call: e.call,
+        caller: e.caller,
+        d0: e.d0,
+        d1: e.d1,
+        d2: e.d2,
+        d3: e.d3,
+        a0: e.a0,
+        named: e.sequence != 0,
         seq: seq,
     }
 }

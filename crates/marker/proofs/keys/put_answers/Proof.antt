@@ -1,5 +1,7 @@
 -- `marker::keys::put_answers` meets its contract. Assumes nothing.
 use borrow.Author.Needs.{needs}
+use Rattle.papers.specs.Bytes.{joined}
+use Rattle.papers.proofs.Runs.{joined-both}
 use Rattle.marker.proofs.keys.put_answers.Statement.{statement}
 use Rattle.marker.proofs.keys.put_answers.Tie as tie
 use Prim.Native.Nat.{_+_, _-_, _*_, _≤_}
@@ -13,9 +15,8 @@ use Rattle.rules.specs.Sound.{sound}
 use Rattle.rules.specs.Play.{answersFrom, stateFrom}
 use Rattle.papers.specs.Events.{eventsFrom}
 use Rattle.papers.specs.Answers.{answerBytes}
-use Rattle.marker.specs.Key.{joined}
-use Rattle.marker.proofs.Places.{joined-long, answers-count}
-use Rattle.marker.proofs.Turns.{left, left-more, played, joined-both, tail-take, tail-drop}
+use Rattle.marker.proofs.Places.{answers-long, answers-count}
+use Rattle.marker.proofs.Turns.{left, left-more, played, tail-take, tail-drop}
 
 -- what is written, and what is left of the answers and of the buffer
 abbrev Inv-loop : tie.InvT-loop
@@ -81,7 +82,7 @@ loop-again c =
     let t = c .before .before .before .before .before .before .before .before .before .loop-test .taken in
     let w = played (l .s) (o .args .p .now) (l .i) m (c .before .before .before .before .before .before .before .events .result) (r .result .answers) (r .result .state) (c .before .before .before .before .before .before .before .events .ensures) (r .ensures .0) (r .ensures .1) in
     let e = joined (map answerBytes (take m (r .result .answers))) in
-    let k : length e ≡ 16 * m = rw (w .0) (joined-long (answersFrom (l .s) (eventsFrom (o .args .p .now) (12 + 20 * l .i) m)) ∙ ap (λ x. 16 * x) (answers-count (l .s) (o .args .p .now) (12 + 20 * l .i) m)) in
+    let k : length e ≡ 16 * m = rw (w .0) (answers-long (answersFrom (l .s) (eventsFrom (o .args .p .now) (12 + 20 * l .i) m)) ∙ ap (λ x. 16 * x) (answers-count (l .s) (o .args .p .now) (12 + 20 * l .i) m)) in
     let h : l .at + 16 * m ≤ length (l .out) = omega (arith, l .inv .1, l .inv .3, o .pre .1, q, t) in
     let g : l .i + m ≤ o .args .n = omega (arith, q, t) in
     let f : joined (left (l .s) (o .args .p .now) (o .args .n) (l .i)) ≡ e ++ joined (left (r .result .state) (o .args .p .now) (o .args .n) (l .i + m)) =

@@ -1,5 +1,7 @@
 -- `marker::keys::put_few` meets its contract. Assumes nothing.
 use borrow.Author.Needs.{needs}
+use Rattle.papers.specs.Bytes.{joined}
+use Rattle.papers.proofs.Runs.{joined-both}
 use Rattle.marker.proofs.keys.put_few.Statement.{statement}
 use Rattle.marker.proofs.keys.put_few.Tie as tie
 use Prim.Native.Nat.{_+_, _-_, _*_, _≤_, _<_}
@@ -12,8 +14,7 @@ use lib.Seq.{take-suc, drop-drop}
 use Rattle.rules.specs.Play.{noAnswer}
 use Rattle.papers.specs.Answers.{answerBytes}
 use Rattle.papers.proofs.Sheets.{answer-long}
-use Rattle.marker.specs.Key.{joined}
-use Rattle.marker.proofs.Turns.{joined-both, tail-take, tail-drop}
+use Rattle.marker.proofs.Turns.{tail-take, tail-drop}
 
 -- what is written, and what is left of the buffer
 abbrev Inv-loop : tie.InvT-loop

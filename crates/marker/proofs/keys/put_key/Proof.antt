@@ -10,7 +10,7 @@ use Rattle.rules.proofs.States.{sound-stays}
 use Rattle.papers.specs.Events.{eventsFrom}
 use Rattle.papers.proofs.Sheets.{header-long}
 use Rattle.rules.specs.Play.{answersFrom}
-use Rattle.marker.proofs.Places.{answers-count, joined-long}
+use Rattle.marker.proofs.Places.{answers-count, answers-long}
 use Rattle.marker.proofs.Turns.{copied, key-put}
 
 header-requires : tie.Need-header-requires
@@ -48,7 +48,7 @@ returns c =
     let put = c .before .before .put-answers in
     let t = c .before .before .before .before .fresh .result in
     let l : length (h .result) ≡ 6 = rw (h .ensures) (header-long (a .n)) in
-    let k = rw (answers-count t (a .p .now) 12 (a .n)) at (joined-long (answersFrom t (eventsFrom (a .p .now) 12 (a .n)))) in
+    let k = rw (answers-count t (a .p .now) 12 (a .n)) at (answers-long (answersFrom t (eventsFrom (a .p .now) 12 (a .n)))) in
     let room : 6 + 16 * a .n ≤ length (copy .last .1 .0) = omega (arith, copy .kept) in
     rw (← h .ensures, ← c .before .before .before .before .fresh .ensures)
     (key-put (a .out .now) (copy .last .1 .0) (h .result) _ (put .last .1 .1 .1 .0) (16 * a .n) (copied (h .result) _ (a .out .now) 6 l (copy .ensures .1)) l k room (put .ensures))

@@ -1,5 +1,6 @@
 -- `marker::marks::right_few` meets its contract. Assumes nothing.
 use borrow.Author.Needs.{needs}
+use Rattle.papers.specs.Bytes.{sixteensFrom}
 use Rattle.marker.proofs.marks.right_few.Statement.{statement}
 use Rattle.marker.proofs.marks.right_few.Tie as tie
 use Prim.Native.Nat.{_+_, _-_, _*_, _≤_, _<_}
@@ -13,14 +14,15 @@ use mathlib.Core.List.{[], _∷_, _++_, map, map-append}
 use lib.ListN.{length, getD, take, length-map}
 use lib.Seq.{take-suc, length-take-le}
 use Rattle.rules.specs.Play.{noAnswer}
-use Rattle.papers.specs.Answers.{answerBytes, placesFrom}
+use Rattle.papers.specs.Answers.{answerBytes}
 use Rattle.marker.specs.Mark.{rightPlaces}
-use Rattle.marker.proofs.Places.{sheet-count, right-parts}
+use Rattle.papers.proofs.Runs.{sixteens-count}
+use Rattle.marker.proofs.Places.{right-parts}
 use Rattle.marker.proofs.Turns.{places-end}
 
 abbrev Inv-loop : tie.InvT-loop
 Inv-loop sheet i m answers right₀ k₀ right k =
-    (k ≤ m) × (right ≤ k) × (right ≡ rightPlaces (map answerBytes (take k answers)) (placesFrom sheet (6 + 16 * i) k))
+    (k ≤ m) × (right ≤ k) × (right ≡ rightPlaces (map answerBytes (take k answers)) (sixteensFrom sheet (6 + 16 * i) k))
 
 abbrev μ-loop : tie.MeasureT-loop
 μ-loop sheet i m answers right₀ k₀ right k = m - k
@@ -28,7 +30,7 @@ abbrev μ-loop : tie.MeasureT-loop
 -- in a turn: what was counted, and the place at hand
 turn : (c : tie.After-same-bytes Inv-loop μ-loop)
     → (let o = c .before .before .before .before .before .before .before in let l = c .before .before .before .before .before .loop in
-    rightPlaces (map answerBytes (take (l .k + 1) (o .args .t1))) (placesFrom (o .args .sheet .now) (6 + 16 * o .args .i) (l .k + 1)) ≡ l .right + cond (c .same-bytes .result) 1 0)
+    rightPlaces (map answerBytes (take (l .k + 1) (o .args .t1))) (sixteensFrom (o .args .sheet .now) (6 + 16 * o .args .i) (l .k + 1)) ≡ l .right + cond (c .same-bytes .result) 1 0)
 turn c =
     let o = c .before .before .before .before .before .before .before in
     let l = c .before .before .before .before .before .loop in
@@ -36,14 +38,14 @@ turn c =
     let t = c .before .before .before .before .loop-test .taken in
     let b : l .k < length (o .args .t1) = omega (arith, o .good .0 .1 .0 .1, o .pre .0, t) in
     let m : take (l .k + 1) (o .args .t1) ≡ take (l .k) (o .args .t1) ++ a ∷ [] = rw (add-one (l .k)) (take-suc (o .args .t1) (l .k) noAnswer b) in
-    let q : length (map answerBytes (take (l .k) (o .args .t1))) ≡ length (placesFrom (o .args .sheet .now) (6 + 16 * o .args .i) (l .k)) =
-    length-map (take (l .k) (o .args .t1)) answerBytes ∙ length-take-le (l .k) (o .args .t1) (omega (arith, b)) ∙ sym (sheet-count (o .args .sheet .now) (6 + 16 * o .args .i) (l .k)) in
+    let q : length (map answerBytes (take (l .k) (o .args .t1))) ≡ length (sixteensFrom (o .args .sheet .now) (6 + 16 * o .args .i) (l .k)) =
+    length-map (take (l .k) (o .args .t1)) answerBytes ∙ length-take-le (l .k) (o .args .t1) (omega (arith, b)) ∙ sym (sixteens-count (o .args .sheet .now) (6 + 16 * o .args .i) (l .k)) in
     let e : 6 + 16 * (o .args .i + l .k) ≡ 6 + 16 * o .args .i + 16 * l .k = omega arith in
     rw (
       m,
       map-append,
       places-end (o .args .sheet .now) (6 + 16 * o .args .i) (l .k),
-      right-parts (map answerBytes (take (l .k) (o .args .t1))) (placesFrom (o .args .sheet .now) (6 + 16 * o .args .i) (l .k)) (answerBytes a ∷ []) _ q,
+      right-parts (map answerBytes (take (l .k) (o .args .t1))) (sixteensFrom (o .args .sheet .now) (6 + 16 * o .args .i) (l .k)) (answerBytes a ∷ []) _ q,
       ← l .inv .2,
       c .same-bytes .ensures,
       c .before .place .ensures,

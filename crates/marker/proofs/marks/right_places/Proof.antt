@@ -1,5 +1,6 @@
 -- `marker::marks::right_places` meets its contract. Assumes nothing.
 use borrow.Author.Needs.{needs}
+use Rattle.papers.specs.Bytes.{sixteensFrom}
 use Rattle.marker.proofs.marks.right_places.Statement.{statement}
 use Rattle.marker.proofs.marks.right_places.Tie as tie
 use Prim.Native.Nat.{_+_, _-_, _*_, _≤_}
@@ -12,15 +13,16 @@ use lib.ListN.{length, take}
 use Rattle.rules.specs.Sound.{sound}
 use Rattle.rules.specs.Play.{answersFrom, stateFrom}
 use Rattle.papers.specs.Events.{eventsFrom}
-use Rattle.papers.specs.Answers.{answerBytes, placesFrom}
+use Rattle.papers.specs.Answers.{answerBytes}
 use Rattle.marker.specs.Mark.{rightPlaces}
-use Rattle.marker.proofs.Places.{answers-count, sheet-count, right-most, right-parts}
+use Rattle.papers.proofs.Runs.{sixteens-count}
+use Rattle.marker.proofs.Places.{answers-count, right-most, right-parts}
 use Rattle.marker.proofs.Turns.{left, left-more, sheet-more, played}
 
 -- what is counted, and what is left of the two lists
 abbrev Inv-loop : tie.InvT-loop
 Inv-loop s₀ p sheet n right₀ i₀ s right i =
-    (i ≤ n) × (right ≤ i) × (sound s ≡ true) × (rightPlaces (left s₀ p n 0) (placesFrom sheet 6 n) ≡ right + rightPlaces (left s p n i) (placesFrom sheet (6 + 16 * i) (n - i)))
+    (i ≤ n) × (right ≤ i) × (sound s ≡ true) × (rightPlaces (left s₀ p n 0) (sixteensFrom sheet 6 n) ≡ right + rightPlaces (left s p n i) (sixteensFrom sheet (6 + 16 * i) (n - i)))
 
 abbrev μ-loop : tie.MeasureT-loop
 μ-loop s₀ p sheet n right₀ i₀ s right i = n - i
@@ -30,9 +32,9 @@ most : (c : tie.After-right-few Inv-loop μ-loop) → c .right-few .result ≤ c
 most c =
     let o = c .before .before .before .before .before .before .before .before .before in
     let x = map answerBytes (take (c .before .before .before .before .lesser .result) (c .before .before .play .result .answers)) in
-    let y = placesFrom (o .args .sheet .now) (6 + 16 * c .before .before .before .before .before .before .loop .i) (c .before .before .before .before .lesser .result) in
+    let y = sixteensFrom (o .args .sheet .now) (6 + 16 * c .before .before .before .before .before .before .loop .i) (c .before .before .before .before .lesser .result) in
     let k = right-most x y in
-    let n : length y ≡ c .before .before .before .before .lesser .result = sheet-count (o .args .sheet .now) (6 + 16 * c .before .before .before .before .before .before .loop .i) (c .before .before .before .before .lesser .result) in
+    let n : length y ≡ c .before .before .before .before .lesser .result = sixteens-count (o .args .sheet .now) (6 + 16 * c .before .before .before .before .before .before .loop .i) (c .before .before .before .before .lesser .result) in
     omega (arith, k, n, c .right-few .ensures)
 
 loop-holds : tie.Need-loop-holds Inv-loop μ-loop
@@ -79,9 +81,9 @@ loop-again c =
     let t = c .before .before .before .before .before .before .loop-test .taken in
     let w = played (l .s) p (l .i) m (c .before .before .before .before .events .result) (r .result .answers) (r .result .state) (c .before .before .before .before .events .ensures) (r .ensures .0) (r .ensures .1) in
     let g : l .i + m ≤ n = omega (arith, c .before .before .before .before .before .lesser .ensures, t) in
-    let k = answers-count (l .s) p (12 + 20 * l .i) m ∙ sym (sheet-count s (6 + 16 * l .i) m) in
-    let f : rightPlaces (left (l .s) p n (l .i)) (placesFrom s (6 + 16 * l .i) (n - l .i)) ≡ c .before .right-few .result + rightPlaces (left (r .result .state) p n (l .i + m)) (placesFrom s (6 + 16 * (l .i + m)) (n - (l .i + m))) =
-    rw (left-more (l .s) p n (l .i) m g, sheet-more s n (l .i) m g, c .before .right-few .ensures, w .0, w .1) (right-parts (map answerBytes (answersFrom (l .s) (eventsFrom p (12 + 20 * l .i) m))) (placesFrom s (6 + 16 * l .i) m) (left (stateFrom (l .s) (eventsFrom p (12 + 20 * l .i) m)) p n (l .i + m)) (placesFrom s (6 + 16 * (l .i + m)) (n - (l .i + m))) k) in
+    let k = answers-count (l .s) p (12 + 20 * l .i) m ∙ sym (sixteens-count s (6 + 16 * l .i) m) in
+    let f : rightPlaces (left (l .s) p n (l .i)) (sixteensFrom s (6 + 16 * l .i) (n - l .i)) ≡ c .before .right-few .result + rightPlaces (left (r .result .state) p n (l .i + m)) (sixteensFrom s (6 + 16 * (l .i + m)) (n - (l .i + m))) =
+    rw (left-more (l .s) p n (l .i) m g, sheet-more s n (l .i) m g, c .before .right-few .ensures, w .0, w .1) (right-parts (map answerBytes (answersFrom (l .s) (eventsFrom p (12 + 20 * l .i) m))) (sixteensFrom s (6 + 16 * l .i) m) (left (stateFrom (l .s) (eventsFrom p (12 + 20 * l .i) m)) p n (l .i + m)) (sixteensFrom s (6 + 16 * (l .i + m)) (n - (l .i + m))) k) in
     let b = most (c .before) in
     let e = rw f at (l .inv .3) in (
       search needs,

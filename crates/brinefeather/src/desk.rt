@@ -1,12 +1,13 @@
 // The routines for the C desk.
-use crate::keys::*;
-use crate::marks::*;
+use marker::keys::Keyed;
+use marker::mark;
+use marker::marks::Marked;
 use papers::layout::Refusal;
 use papers::layout::number_of;
 ghost use mathlib.Core.Path.{_≡_};
 ghost use Rattle.marker.specs.Key.{keyed};
 ghost use Rattle.marker.specs.Mark.{marked};
-ghost use Rattle.marker.specs.Desk.{refusalNumber, markNumber, keyNumber};
+ghost use Rattle.brinefeather.specs.Desk.{refusalNumber, markNumber, keyNumber};
 
 // The number of a refusal, with its offset in the 16 bits above, if it has one.
 fn refusal_number(r: Refusal) -> u64
@@ -56,5 +57,5 @@ pub extern "C" fn brinefeather_mark(paper: &[u8], sheet: &[u8]) -> u64
 pub extern "C" fn brinefeather_key(paper: &[u8], key: &mut [u8]) -> u64
     ensures { λ r. ⌜ (r ≡ keyNumber (keyed (now (paper .entry)) (now (key .entry)) .0)) × (now (key .exit) ≡ keyed (now (paper .entry)) (now (key .entry)) .1) ⌝ }
 {
-    key_number(crate::keys::key(paper, key))
+    key_number(marker::key(paper, key))
 }

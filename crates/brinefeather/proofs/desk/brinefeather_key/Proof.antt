@@ -1,9 +1,9 @@
--- `marker::desk::brinefeather_key` meets its contract. Assumes nothing.
+-- `brinefeather::desk::brinefeather_key` meets its contract. Assumes nothing.
 use borrow.Author.Needs.{needs}
-use Rattle.marker.proofs.desk.brinefeather_key.Statement.{statement}
-use Rattle.marker.proofs.desk.brinefeather_key.Tie as tie
+use Rattle.brinefeather.proofs.desk.brinefeather_key.Statement.{statement}
+use Rattle.brinefeather.proofs.desk.brinefeather_key.Tie as tie
 use mathlib.Core.Path.{_∙_, ap}
-use Rattle.marker.specs.Desk.{keyNumber}
+use Rattle.brinefeather.specs.Desk.{keyNumber}
 
 key-requires : tie.Need-key-requires
 key-requires c κs = search needs

@@ -1,9 +1,9 @@
--- `marker::desk::brinefeather_mark` meets its contract. Assumes nothing.
+-- `brinefeather::desk::brinefeather_mark` meets its contract. Assumes nothing.
 use borrow.Author.Needs.{needs}
-use Rattle.marker.proofs.desk.brinefeather_mark.Statement.{statement}
-use Rattle.marker.proofs.desk.brinefeather_mark.Tie as tie
+use Rattle.brinefeather.proofs.desk.brinefeather_mark.Statement.{statement}
+use Rattle.brinefeather.proofs.desk.brinefeather_mark.Tie as tie
 use mathlib.Core.Path.{_∙_, ap}
-use Rattle.marker.specs.Desk.{markNumber}
+use Rattle.brinefeather.specs.Desk.{markNumber}
 
 mark-requires : tie.Need-mark-requires
 mark-requires c κs = search needs

@@ -1,7 +1,7 @@
--- `marker::desk::refusal_number` meets its contract. Assumes nothing.
+-- `brinefeather::desk::refusal_number` meets its contract. Assumes nothing.
 use borrow.Author.Needs.{needs}
-use Rattle.marker.proofs.desk.refusal_number.Statement.{statement}
-use Rattle.marker.proofs.desk.refusal_number.Tie as tie
+use Rattle.brinefeather.proofs.desk.refusal_number.Statement.{statement}
+use Rattle.brinefeather.proofs.desk.refusal_number.Tie as tie
 
 number-of-requires : tie.Need-number-of-requires
 number-of-requires c κs = search needs

@@ -1,9 +1,9 @@
--- `marker::desk::mark_number` meets its contract. Assumes nothing.
+-- `brinefeather::desk::mark_number` meets its contract. Assumes nothing.
 use borrow.Author.Needs.{needs}
-use Rattle.marker.proofs.desk.mark_number.Statement.{statement}
-use Rattle.marker.proofs.desk.mark_number.Tie as tie
+use Rattle.brinefeather.proofs.desk.mark_number.Statement.{statement}
+use Rattle.brinefeather.proofs.desk.mark_number.Tie as tie
 use mathlib.Core.Path.{sym, ap}
-use Rattle.marker.specs.Desk.{markNumber}
+use Rattle.brinefeather.specs.Desk.{markNumber}
 
 enum-known-m : tie.Need-enum-known-m
 enum-known-m c = search needs

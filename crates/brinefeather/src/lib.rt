@@ -1,0 +1,5 @@
+// The routines for C: each answers one 64-bit number. The archive that C links is made of this crate.
+mod desk;
+
+pub use crate::desk::brinefeather_key;
+pub use crate::desk::brinefeather_mark;
