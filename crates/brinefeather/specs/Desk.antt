@@ -1,8 +1,16 @@
 -- The numbers that the C desk gets. Assumes nothing.
-use Prim.Native.Nat.{ℕ, _+_, _*_}
+use Prim.Native.Nat.{ℕ, _+_, _*_, _/_, _%_}
+use mathlib.Core.Bool.{Bool, cond, _||_}
+use lib.Dec.{eqb, leb}
+use Rattle.locks.specs.Lists.{between}
 use Rattle.papers.specs.Fields.{numberOf}
 use Rattle.papers.specs.declared.layout.Refusal.{Refusal}
 use Rattle.papers.specs.declared.layout.Refusal.the-variants.{Badpaper, Blank, Badsheet, Noroom}
+use Rattle.forms.specs.Adding.{counts, lengthFor}
+use Rattle.forms.specs.Adding as writer
+use Rattle.forms.specs.declared.items.Writer.{Writer}
+use Rattle.forms.specs.declared.items.Added.{Added}
+use Rattle.forms.specs.declared.items.Added.the-variants as added
 use Rattle.marker.specs.declared.keys.Keyed.{Keyed}
 use Rattle.marker.specs.declared.keys.Keyed.the-variants as key
 use Rattle.marker.specs.declared.marks.Marked.{Marked}
@@ -24,3 +32,28 @@ markNumber (mark.Refused r) = refusalNumber r
 abbrev pub keyNumber : Keyed → ℕ
 keyNumber (key.Written length) = length
 keyNumber (key.Refused r) = refusalNumber r
+
+-- ---- §3: a writer
+
+-- the paper's length times 2^32, its events times 65,536, its sequences
+abbrev pub writerNumber : Writer → ℕ
+writerNumber w = (lengthFor w * 65536 + w .events) * 65536 + w .sequences
+
+-- the counts alone are read back
+abbrev pub writerOf : ℕ → Writer
+writerOf n = counts (n / 65536 % 65536) (n % 65536)
+
+-- the writer after an accepted call, or the refusal number
+abbrev pub addedNumber : Added → ℕ
+addedNumber (added.Taken w) = writerNumber w
+addedNumber (added.Refused r) = writer.numberOf r
+
+-- ---- a refusal is told by its size, as in `brinefeather_refused` of desk/brinefeather.h
+
+-- a key of one event has 22 bytes, and a longer one at least 38; no refusal has the number 22 or one above 27
+abbrev pub isLength : ℕ → Bool
+isLength n = eqb n 22 || between 28 65535 n
+
+-- the refusal's number, or 0: marks and writers are 2^32 or more, refusals with their offset are less
+abbrev pub refusedOf : ℕ → ℕ
+refusedOf n = cond (leb 4294967296 n) 0 (cond (isLength n) 0 (n % 65536))

@@ -1,0 +1,39 @@
+-- `brinefeather::writing::brinefeather_add_event` meets its contract. Assumes nothing.
+use borrow.Author.Needs.{needs}
+use mathlib.Core.Path.{_∙_, ap}
+use Rattle.brinefeather.specs.Desk.{addedNumber}
+use Rattle.brinefeather.proofs.writing.brinefeather_add_event.Statement.{statement}
+use Rattle.brinefeather.proofs.writing.brinefeather_add_event.Tie as tie
+
+entry-of-requires : tie.Need-entry-of-requires
+entry-of-requires c κs = search needs
+
+writer-of-requires : tie.Need-writer-of-requires
+writer-of-requires c κs = search needs
+
+add-event-requires : tie.Need-add-event-requires
+add-event-requires c κs = search needs
+
+added-number-requires : tie.Need-added-number-requires
+added-number-requires c κs = search needs
+
+same-length : tie.Need-same-length
+same-length c = search needs
+
+returns : tie.Need-returns
+returns c =
+    let w = c .before .before .before .before .before .writer-of in
+    let i = c .before .before .before .before .before .before .entry-of in
+    let k = rw (w .ensures, i .ensures) at (c .before .before .before .add-event .ensures) in
+    (c .added-number .ensures ∙ ap (λ y. addedNumber (y .0)) k, ap (λ y. y .1) k)
+
+pub brinefeather-add-event-spec : {M : Type 1} → statement M
+brinefeather-add-event-spec =
+    tie.close
+    (tie.spec
+    entry-of-requires
+    writer-of-requires
+    add-event-requires
+    added-number-requires
+    same-length
+    returns)

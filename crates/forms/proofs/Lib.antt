@@ -1,0 +1,5 @@
+pub mod Laws
+pub mod Forms
+pub mod Calls
+pub mod Promises
+pub mod Cases
