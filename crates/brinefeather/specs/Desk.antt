@@ -57,3 +57,16 @@ isLength n = eqb n 22 || between 28 65535 n
 -- the refusal's number, or 0: marks and writers are 2^32 or more, refusals with their offset are less
 abbrev pub refusedOf : ℕ → ℕ
 refusedOf n = cond (leb 4294967296 n) 0 (cond (isLength n) 0 (n % 65536))
+
+-- what it is to say: the number of the refusal, 0 for none
+abbrev pub markRefusal : Marked → ℕ
+markRefusal (mark.Mark total right missing surplus) = 0
+markRefusal (mark.Refused r) = numberOf r
+
+abbrev pub keyRefusal : Keyed → ℕ
+keyRefusal (key.Written length) = 0
+keyRefusal (key.Refused r) = numberOf r
+
+abbrev pub addedRefusal : Added → ℕ
+addedRefusal (added.Taken w) = 0
+addedRefusal (added.Refused r) = writer.numberOf r

@@ -46,6 +46,10 @@ use Rattle.model.proofs.play.Met as play-code
 use Rattle.marker.proofs.key.Met as key-code
 use Rattle.marker.proofs.mark.Met as mark-code
 use Rattle.marker.proofs.perfect.Met as perfect-code
+use Rattle.writer.proofs.add_sequence.Met as add-sequence-code
+use Rattle.writer.proofs.add_event.Met as add-event-code
+use Rattle.brinefeather.proofs.brinefeather_add_sequence.Met as brinefeather-add-sequence-code
+use Rattle.brinefeather.proofs.brinefeather_add_event.Met as brinefeather-add-event-code
 use Rattle.brinefeather.proofs.brinefeather_key.Met as brinefeather-key-code
 use Rattle.brinefeather.proofs.brinefeather_mark.Met as brinefeather-mark-code
 use Rattle.demands.specs.Demands.{Code, StepGives, AdvanceGives, Calls, none, more, ByTheRules, Demand1, Demand2}
@@ -62,6 +66,10 @@ code =
       perfect = perfect-code.met;
       brinefeather-key = brinefeather-key-code.met;
       brinefeather-mark = brinefeather-mark-code.met;
+      add-sequence = add-sequence-code.met;
+      add-event = add-event-code.met;
+      brinefeather-add-sequence = brinefeather-add-sequence-code.met;
+      brinefeather-add-event = brinefeather-add-event-code.met;
     }
 
 -- ---- any events

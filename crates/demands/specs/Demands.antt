@@ -38,12 +38,16 @@ use Rattle.marker.proofs.key.Reads as key-promise
 use Rattle.marker.proofs.mark.Statement as mark-theorem
 use Rattle.marker.proofs.mark.Reads as mark-promise
 use Rattle.marker.proofs.perfect.Statement as perfect-theorem
+use Rattle.writer.proofs.add_sequence.Statement as add-sequence-theorem
+use Rattle.writer.proofs.add_event.Statement as add-event-theorem
+use Rattle.brinefeather.proofs.brinefeather_add_sequence.Statement as brinefeather-add-sequence-theorem
+use Rattle.brinefeather.proofs.brinefeather_add_event.Statement as brinefeather-add-event-theorem
 use Rattle.brinefeather.proofs.brinefeather_key.Statement as brinefeather-key-theorem
 use Rattle.brinefeather.proofs.brinefeather_mark.Statement as brinefeather-mark-theorem
 
 -- ---- the code
 
--- Each public routine of model, marker and brinefeather keeps its promise: `statement` is what the toolchain makes of the routine and of the promise that stands above it in crates/*/src.
+-- Each public routine of model, marker, writer and brinefeather keeps its promise: `statement` is what the toolchain makes of the routine and of the promise that stands above it in crates/*/src.
 pub record Code (M : Type 1) : Type 2 where
   pub fresh : fresh-theorem.statement M
   pub step : step-theorem.statement M
@@ -54,6 +58,10 @@ pub record Code (M : Type 1) : Type 2 where
   pub perfect : perfect-theorem.statement M
   pub brinefeather-key : brinefeather-key-theorem.statement M
   pub brinefeather-mark : brinefeather-mark-theorem.statement M
+  pub add-sequence : add-sequence-theorem.statement M
+  pub add-event : add-event-theorem.statement M
+  pub brinefeather-add-sequence : brinefeather-add-sequence-theorem.statement M
+  pub brinefeather-add-event : brinefeather-add-event-theorem.statement M
 
 -- What the promises say of a call, as any caller reads them. `fresh` gives s. `step` and `advance` ask for this of the state s and the event e, and give r for them.
 abbrev pub FreshGives : State → Type 0

@@ -7,7 +7,7 @@ use mathlib.Core.List.{List, [], _∷_, _++_, map, append-nil}
 use lib.ListN.{length, take, drop, length-append, length-drop}
 use lib.Dec.{ltb}
 use lib.Seq.{take-at, drop-drop, append-snoc, drop-append-add}
-use borrow.Author.Tests.{not-false, eqb-true, leb-true, leb-false, ltb-true, ltb-false, le-leb, lt-leb, lt-ltb, le-ltb, eq-eqb}
+use borrow.Author.Tests.{not-false, eqb-true, leb-true, leb-false, ltb-true, ltb-false, le-leb, lt-leb, lt-ltb, le-ltb, eq-eqb, ne-eqb}
 use Rattle.locks.specs.Lists.{all, isZero}
 use Rattle.locks.proofs.Tests.{picked, and-split}
 use Rattle.locks.proofs.Lists.{all-end, all-parts}
@@ -27,7 +27,7 @@ use Rattle.forms.specs.declared.items.Added.{Added}
 use Rattle.forms.specs.declared.items.Added.the-variants.{Taken, Refused}
 use Rattle.forms.specs.Form.{paperBytes}
 use Rattle.forms.specs.Adding.{Item, sequence, event, counts, lengthFor, entriesIn, sequencesIn, hasCounts, begins, isBroken, isMisplaced, isFull, entriesWith, sequencesWith, inFront, laidOut, added, addedAll}
-use Rattle.forms.specs.Promises.{Holds, itemLong, grown, Left, EachLeaves, RefusedLeaves, Listed, taken, badpaper, order, full, noroom, AllListed, InOrder, FullAt, WriterRefusalNumbers, WritesAll, WrittenAgain}
+use Rattle.forms.specs.Promises.{Holds, itemLong, grown, Left, EachLeaves, RefusedLeaves, Listed, taken, badpaper, order, full, noroom, AllListed, InOrder, OnAPaper, OnPapers, WriterRefusalNumbers, WritesAll, WrittenAgain}
 use Rattle.forms.proofs.Laws.{entries-count, sixteens-sixteen, paper-long, names, entries-front}
 use Rattle.forms.proofs.Forms.{at-2, at-6, entries-read, sequences-read, made-fits, reads-back, one-form, names-have}
 use Rattle.forms.proofs.Calls.{unbroken, few, few-events}
@@ -297,6 +297,68 @@ in-order =
       );
     }
 
+-- ---- a call where a paper stands
+
+module _ (es : List Entry) (ss : List (List ℕ)) (r : List ℕ) (h : Holds es ss) where
+  abbrev w₀ : Writer
+  w₀ = many es ss
+
+  abbrev b₀ : List ℕ
+  b₀ = paperBytes es ss ++ r
+
+  b-long : length b₀ ≡ lengthFor w₀ + length r
+  b-long = rw (length-append, p-long es ss h)
+
+  -- none of the first three refusals: the paper with the item, if there is room
+  on-paper : (i : Item) → isMisplaced w₀ i ≡ false → isFull w₀ i ≡ false → added w₀ b₀ i ≡ laidOut (entriesWith es i) (sequencesWith ss i) b₀
+  unfolding added
+  on-paper i m f = rw (p-whole es ss h r, m, f, entries-read es ss r, sequences-read es ss r (h .long))
+
+  module _ (i : Item) (m : isMisplaced w₀ i ≡ false) (f : isFull w₀ i ≡ false) (k : ℕ)
+      (l : length (paperBytes (entriesWith es i) (sequencesWith ss i)) ≡ lengthFor w₀ + k) where
+    on-short : length r < k → added w₀ b₀ i ≡ (Refused Noroom, b₀)
+    unfolding laidOut
+    on-short s = on-paper i m f ∙ rw (l, b-long, lt-ltb (lengthFor w₀ + length r) (lengthFor w₀ + k) (omega arith))
+
+    on-more : k ≤ length r → added w₀ b₀ i ≡ (Taken (many (entriesWith es i) (sequencesWith ss i)), paperBytes (entriesWith es i) (sequencesWith ss i) ++ drop k r)
+    unfolding laidOut
+    on-more s =
+        let d : drop (lengthFor w₀ + k) b₀ ≡ drop k r = rw (p-long es ss h) at (drop-append-add (paperBytes es ss) r k) in
+        on-paper i m f ∙ rw (l, b-long, le-ltb (lengthFor w₀ + length r) (lengthFor w₀ + k) (omega arith), d)
+
+  event-grows : (e : Entry) → length (paperBytes (es ++ e ∷ []) ss) ≡ lengthFor w₀ + 20
+  event-grows e = paper-long (es ++ e ∷ []) ss (h .long) ∙ rw length-append (omega arith)
+
+  sequence-grows : (s : List ℕ) → isSixteen s ≡ true → length (paperBytes es (ss ++ s ∷ [])) ≡ lengthFor w₀ + 16
+  sequence-grows s l = paper-long es (ss ++ s ∷ []) (all-end isSixteen ss s (h .long) l) ∙ rw length-append (omega arith)
+
+  is-misplaced : (i : Item) → isMisplaced w₀ i ≡ true → added w₀ b₀ i ≡ (Refused Order, b₀)
+  unfolding added
+  is-misplaced i m = rw (p-whole es ss h r, m)
+
+  is-over : (i : Item) → isMisplaced w₀ i ≡ false → isFull w₀ i ≡ true → added w₀ b₀ i ≡ (Refused Full, b₀)
+  unfolding added
+  is-over i m f = rw (p-whole es ss h r, m, f)
+
+  none-yet : (s : List ℕ) → length es ≡ 0 → isMisplaced w₀ (sequence s) ≡ false
+  none-yet s z = rw z
+
+  on-a-paper : OnAPaper es ss r
+  on-a-paper =
+      record {
+        misnamed = λ e n. is-misplaced (event e) (lt-ltb (length ss) (e .sequence) n);
+        event-1001 = λ e n f. is-over (event e) (le-ltb (length ss) (e .sequence) n) (le-leb 1000 (length es) (omega arith));
+        event-short = λ e n f. on-short (event e) (le-ltb (length ss) (e .sequence) n) (lt-leb 1000 (length es) f) 20 (event-grows e);
+        event-more = λ e n f s. on-more (event e) (le-ltb (length ss) (e .sequence) n) (lt-leb 1000 (length es) f) 20 (event-grows e) s ∙ rw length-append;
+        late = λ s n. is-misplaced (sequence s) (rw (ne-eqb (length es) 0 (λ z. omega arith)));
+        sequence-65 = λ s z f. is-over (sequence s) (none-yet s z) (le-leb 64 (length ss) (omega arith));
+        sequence-short = λ s l z f. on-short (sequence s) (none-yet s z) (lt-leb 64 (length ss) f) 16 (sequence-grows s l);
+        sequence-more = λ s l z f k. on-more (sequence s) (none-yet s z) (lt-leb 64 (length ss) f) 16 (sequence-grows s l) k ∙ rw length-append;
+      }
+
+pub on-papers : OnPapers
+on-papers es ss r h = on-a-paper es ss r h
+
 -- ---- calls one after another
 
 fewer-sequences : (xs ys : List (List ℕ)) → Holds [] (xs ++ ys) → Holds [] xs
@@ -337,14 +399,6 @@ write-events (x ∷ es) done ss b c st h room =
     let f = step done ss b c st (event x) (le-ltb (length ss) (x .sequence) q) (lt-leb 1000 (length done) (omega (arith, h₁ .events))) (omega arith) r in
     let k = rw e at (write-events es (done ++ x ∷ []) ss b (front (done ++ x ∷ []) ss b) (stands (done ++ x ∷ []) ss h₁ b r) (rw e h) (rw e room)) in
     (k .0, k .1, ap (λ y. addedAll y (map event es)) f ∙ k .2)
-
-pub full-at : FullAt
-unfolding added
-full-at =
-    record {
-      events = λ es ss r e h n q. rw (rw n at (p-whole es ss h r), le-ltb (length ss) (e .sequence) q);
-      sequences = λ ss r s h n. rw (rw n at (p-whole [] ss h r));
-    }
 
 pub refusal-numbers : WriterRefusalNumbers
 refusal-numbers = record { badpaper = refl; order = refl; full = refl; noroom = refl }

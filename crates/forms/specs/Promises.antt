@@ -2,7 +2,7 @@
 use Prim.Native.Nat.{ℕ, _+_, _≤_, _<_}
 use mathlib.Core.Path.{_≡_}
 use mathlib.Core.Bool.{Bool, true, false}
-use mathlib.Core.List.{List, [], _++_, map}
+use mathlib.Core.List.{List, [], _∷_, _++_, map}
 use mathlib.Core.Logic.{_↔_}
 use lib.ListN.{length, getD, take, drop}
 use lib.Dec.{leb}
@@ -107,12 +107,28 @@ pub record InOrder : Type 0 where
   pub noroom : (w : Writer) (b : List ℕ) (i : Item) → itemLong i ≡ true
       → (added w b i .0 ≡ Refused Noroom) ↔ ((isBroken w b ≡ false) × (isMisplaced w i ≡ false) × (isFull w i ≡ false) × (length b < lengthFor (grown w i)))
 
--- §3: "full 20 at event 1,001 or sequence 65", whatever the room
-pub record FullAt : Type 0 where
-  pub events : (es : List Entry) (ss : List (List ℕ)) (r : List ℕ) (e : Entry) → Holds es ss → length es ≡ 1000 → e .sequence ≤ length ss
-      → added (counts 1000 (length ss)) (paperBytes es ss ++ r) (event e) ≡ (Refused Full, paperBytes es ss ++ r)
-  pub sequences : (ss : List (List ℕ)) (r s : List ℕ) → Holds [] ss → length ss ≡ 64
-      → added (counts 0 64) (paperBytes [] ss ++ r) (sequence s) ≡ (Refused Full, paperBytes [] ss ++ r)
+-- what each call gives where a paper of the writer's counts stands, with r behind it: §3: "full 20 at event 1,001 or sequence 65", "noroom 18 when the paper so far would not fit"
+module _ (es : List Entry) (ss : List (List ℕ)) (r : List ℕ) where
+  abbrev gives : Item → Added × List ℕ
+  gives i = added (counts (length es) (length ss)) (paperBytes es ss ++ r) i
+
+  abbrev refuses : Refusal → Added × List ℕ
+  refuses x = (Refused x, paperBytes es ss ++ r)
+
+  pub record OnAPaper : Type 0 where
+    pub misnamed : (e : Entry) → length ss < e .sequence → gives (event e) ≡ refuses Order
+    pub event-1001 : (e : Entry) → e .sequence ≤ length ss → length es ≡ 1000 → gives (event e) ≡ refuses Full
+    pub event-short : (e : Entry) → e .sequence ≤ length ss → length es < 1000 → length r < 20 → gives (event e) ≡ refuses Noroom
+    pub event-more : (e : Entry) → e .sequence ≤ length ss → length es < 1000 → 20 ≤ length r
+        → gives (event e) ≡ (Taken (counts (length es + 1) (length ss)), paperBytes (es ++ e ∷ []) ss ++ drop 20 r)
+    pub late : (s : List ℕ) → 1 ≤ length es → gives (sequence s) ≡ refuses Order
+    pub sequence-65 : (s : List ℕ) → length es ≡ 0 → length ss ≡ 64 → gives (sequence s) ≡ refuses Full
+    pub sequence-short : (s : List ℕ) → isSixteen s ≡ true → length es ≡ 0 → length ss < 64 → length r < 16 → gives (sequence s) ≡ refuses Noroom
+    pub sequence-more : (s : List ℕ) → isSixteen s ≡ true → length es ≡ 0 → length ss < 64 → 16 ≤ length r
+        → gives (sequence s) ≡ (Taken (counts (length es) (length ss + 1)), paperBytes es (ss ++ s ∷ []) ++ drop 16 r)
+
+abbrev pub OnPapers : Type 0
+OnPapers = (es : List Entry) (ss : List (List ℕ)) (r : List ℕ) → Holds es ss → OnAPaper es ss r
 
 -- the numbers of the request
 pub record WriterRefusalNumbers : Type 0 where

@@ -1,10 +1,10 @@
 -- What the two calls of a writer find and leave. Assumes nothing.
-use Prim.Native.Nat.{ℕ, _+_, _-_, _*_, _≤_, _<_}
+use Prim.Native.Nat.{ℕ, _+_, _*_, _≤_, _<_}
 use native.Mathlib.Omega.{arith}
 use mathlib.Core.Path.{_≡_, sym, _∙_}
-use mathlib.Core.Bool.{Bool, true, false, _&&_}
+use mathlib.Core.Bool.{false, _&&_}
 use mathlib.Core.List.{List, [], _∷_, _++_, map-append, append-assoc, append-nil}
-use lib.ListN.{length, getD, take, drop, length-append}
+use lib.ListN.{length, take, drop, length-append}
 use lib.Dec.{eqb}
 use lib.Seq.{take-all, length-take-le}
 use borrow.Author.Tests.{eqb-true, eqb-false, eq-eqb, ne-eqb, lt-ltb, le-ltb, lt-leb}
@@ -15,16 +15,14 @@ use Rattle.papers.specs.Layout.{eventCount, sequenceCount, paperFits}
 use Rattle.papers.specs.Fields.{paperOf}
 use Rattle.papers.specs.Entries.{entriesFrom}
 use Rattle.papers.specs.declared.entries.Entry.{Entry}
-use Rattle.papers.specs.declared.layout.Refusal.the-variants as file
 use Rattle.papers.specs.declared.layout.Read.{Read}
-use Rattle.papers.specs.declared.layout.Read.the-variants as read
 use Rattle.papers.proofs.Runs.{sixteens-count, joined-both}
 use Rattle.papers.proofs.Files.{Paper, PaperRead, broken, empty, some, paper-has, paper-read}
 use Rattle.forms.specs.declared.items.Writer.{Writer}
 use Rattle.forms.specs.declared.items.Refusal.the-variants.{Noroom}
 use Rattle.forms.specs.declared.items.Added.the-variants.{Taken, Refused}
-use Rattle.forms.specs.Form.{entryBytes, lengthOf, paperHeader, paperBytes}
-use Rattle.forms.specs.Adding.{sequence, event, counts, lengthFor, hasCounts, begins, isBroken, laidOut, added}
+use Rattle.forms.specs.Form.{entryBytes, paperHeader, paperBytes}
+use Rattle.forms.specs.Adding.{sequence, event, lengthFor, hasCounts, begins, isBroken, laidOut, added}
 use Rattle.forms.specs.Promises.{Bytes}
 use Rattle.writer.specs.Reading.{finds}
 use Rattle.forms.proofs.Laws.{entries-count, sixteens-sixteen, entries-run, sixteens-run, run-take, paper-long}

@@ -1,7 +1,7 @@
 -- `writer::adding::begins_with` meets its contract. Assumes nothing.
 use borrow.Author.Needs.{needs}
 use native.Mathlib.Omega.{arith}
-use mathlib.Core.Path.{sym, _∙_, ap}
+use mathlib.Core.Path.{sym}
 use lib.Seq.{length-take-le}
 use Rattle.writer.proofs.Calls.{begins-short, begins-read}
 use Rattle.writer.proofs.adding.begins_with.Statement.{statement}
