@@ -12,9 +12,10 @@ fn move_up(out: &mut [u8], n: usize)
     requires { ⌜ 20 + n ≤ length (now out) ⌝ }
     ensures { λ _. ⌜ now (out .exit) ≡ take 20 (now (out .entry)) ++ take n (now (out .entry)) ++ drop (20 + n) (now (out .entry)) ⌝ }
 {
-    let mut i = n;
-    while 0 < i {
-        i -= 1;
+    let mut k: usize = 0;
+    while k < n {
+        k += 1;
+        let i = n - k;
         let b = out[i];
         out[20 + i] = b;
     }
