@@ -1,31 +1,28 @@
 -- A call that touches its caller alone: the caller as it is after, in its place. Assumes nothing.
-use Prim.Native.Nat.{ℕ, _<_}
-use native.Mathlib.Omega.{arith}
-use mathlib.Core.Path.{_≡_, refl, sym, ap, _∙_}
-use mathlib.Core.Bool.{true, false, and-eq-true-iff}
-use lib.ListN.{length-map, getD, set}
-use lib.Seq.{set-getD}
-use Rattle.rules.specs.State.{view, processOf, put}
+use Prim.Native.Nat.{ℕ}
+use mathlib.Core.Path.{_≡_, refl}
+use mathlib.Core.Bool.{true, false}
+use Rattle.rules.specs.State.{view, put}
 use Rattle.rules.specs.Outcome.{refusal, Outcome, refused, answered, when, either, own}
 use Rattle.rules.specs.Signals.{takes, taken}
 use Rattle.rules.specs.Calls.{getId, setId, setPrior, setSignal, doSleep, ownCall}
-use Rattle.rules.specs.Sound.{soundMachine}
 use Rattle.rules.specs.Step.{reported, settled}
 use Rattle.rules.specs.declared.state.Process.{Process}
 use Rattle.rules.specs.declared.state.State.{State}
 use Rattle.rules.specs.declared.state.Event.{Event}
+use Rattle.rules.specs.declared.state.Stepped.{Stepped}
 use Rattle.rules.specs.declared.calls.OwnCall.{OwnCall}
 use Rattle.rules.specs.declared.calls.OwnCall.the-variants.{GetUser, SetUser, GetGroup, SetGroup, GetPrior, SetPrior, GetProc, Signal, Sleep, Alarm, Pause}
 use Rattle.rules.proofs.Walk.{Leaves}
-use Rattle.rules.proofs.Frame.{Ok}
 use Rattle.processes.specs.Told.{told}
-use Rattle.model.specs.declared.event.OwnTurn.{OwnTurn}
-use Rattle.model.specs.declared.event.OwnTurn.the-variants as turn
-use Rattle.model.specs.Laid.{Lays, Caller, kept}
-use Rattle.model.specs.Course.{ownTurn}
-use Rattle.model.proofs.Places.{first-found}
-use Rattle.model.proofs.Laying.{lays-live, lays-fits, lays-long, lays-put}
-use Rattle.model.proofs.Masks.{put-masks, settled-quiet}
+use Rattle.processes.specs.declared.own.Told.{Told}
+use Rattle.events.specs.declared.event.OwnTurn.{OwnTurn}
+use Rattle.events.specs.declared.event.OwnTurn.the-variants as turn
+use Rattle.machine.specs.Laid.{Caller, stored}
+use Rattle.events.specs.Course.{ownTurn}
+use Rattle.machine.proofs.Laying.{lays-put}
+use Rattle.machine.proofs.Masks.{put-masks, settled-quiet}
+use Rattle.machine.proofs.Callers.{caller-ok, caller-back}
 
 -- ---- its PID stays
 
@@ -59,26 +56,9 @@ turn-pids turn.Report p e = reported-pids p
 
 -- ---- in its place
 
-pub machine-ok : {s : State} → Lays s (view s) → soundMachine (view s) ≡ true → Ok (view s)
-unfolding soundMachine
-machine-ok l h =
-    let k = simp and-eq-true-iff at h in
-    record {
-      frame = record { fit = k .0 .0 .0; rows-sound = k .0 .0 .1; rows-apart = k .0 .1; few = rw length-map (l .live); rows-few = l .used };
-      procs = k .1;
-    }
-
-pub caller-ok : {s : State} {i : ℕ} {p : Process} → Caller s i p → Ok (view s)
-caller-ok c = machine-ok (c .lays) (c .sound)
-
--- the caller put back as it is
-pub caller-back : {s : State} {i : ℕ} {p : Process} → Caller s i p → set (s .procs) i p ≡ s .procs
-unfolding view processOf
-caller-back {s} {i} {p} c =
-    let l = c .lays in
-    let b : i < s .live = omega (arith, c .stands, lays-live l) in
-    let h : getD (s .procs) i p ≡ p = first-found (p .pid) (s .procs) (s .live) i p (omega (arith, lays-fits l, lays-long l)) (c .place) b ∙ sym (c .is) in
-    ap (set (s .procs) i) (sym h) ∙ set-getD (s .procs) i p
+-- the caller in its place
+abbrev kept : State → ℕ → Told → Stepped
+kept s i x = record { answer = x .answer; state = stored i (x .process) s }
 
 pub keeps : {s : State} {i : ℕ} {p : Process} → Caller s i p → (o : Outcome Process) → Leaves (λ q. q .pid ≡ p .pid) o → kept s i (told p o) ≡ settled s (own (view s) o)
 unfolding settled put

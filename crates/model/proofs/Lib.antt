@@ -1,13 +1,3 @@
-pub mod Places
-pub mod Laying
 pub mod Sound
-pub mod Masks
 pub mod Kept
-pub mod Marks
-pub mod Sweep
-pub mod Comparing
-pub mod Locks
-pub mod Events
 pub mod Plays
-pub mod Ticks
-pub mod Endings

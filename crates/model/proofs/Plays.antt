@@ -13,20 +13,44 @@ use Rattle.locks.specs.Rows.{laidRows}
 use Rattle.locks.proofs.Loops.{padded-more}
 use Rattle.rules.specs.State.{Machine, view, laid, lives, processOf}
 use Rattle.rules.specs.Outcome.{Outcome, refused, answered, when, either}
-use Rattle.rules.specs.Sound.{sound}
-use Rattle.rules.specs.Step.{settled, stepOf}
+use Rattle.rules.specs.Sound.{soundMachine, sound}
+use Rattle.rules.specs.Step.{outcome, settled, stepOf}
 use Rattle.rules.specs.Play.{answersFrom, noAnswer, stateFrom}
 use Rattle.rules.specs.declared.state.Process.{Process}
 use Rattle.rules.specs.declared.state.State.{State}
 use Rattle.rules.specs.declared.state.Event.{Event}
 use Rattle.rules.specs.declared.state.Answer.{Answer}
 use Rattle.rules.specs.declared.state.Stepped.{Stepped}
+use Rattle.rules.proofs.Frame.{fit-next}
+use Rattle.rules.proofs.States.{sound-stays}
 use Rattle.rules.proofs.Plays.{answers-more, state-more, answers-count}
-use Rattle.model.specs.declared.event.Course.{Course}
-use Rattle.model.specs.Laid.{Lays, Caller}
-use Rattle.model.specs.Course.{follows, acts, OfEvent}
-use Rattle.model.proofs.Laying.{lays-own, Seeking, seek, sought-among, unsought-among}
-use Rattle.model.proofs.Events.{sound-machine, advanced, lives-here, lives-not, process-here, caller-here}
+use Rattle.events.specs.declared.event.Course.{Course}
+use Rattle.machine.specs.Laid.{Lays, Caller}
+use Rattle.events.specs.Course.{follows, acts, OfEvent}
+use Rattle.machine.proofs.Laying.{lays-own, Seeking, seek, sought-among, unsought-among}
+use Rattle.machine.proofs.Callers.{caller-ok, lives-here, lives-not, process-here, caller-here}
+
+-- ---- a sound state
+
+pub sound-machine : (s : State) → sound s ≡ true → soundMachine (view s) ≡ true
+unfolding sound
+sound-machine s h = (simp and-eq-true-iff at h) .1
+
+-- somebody lives
+pub some-live : (s : State) → sound s ≡ true → 0 < s .live
+unfolding sound
+some-live s h = let k = leb-true 1 (s .live) ((simp and-eq-true-iff at h) .0 .0 .0 .0 .0) in omega (arith, k)
+
+-- the step of a sound state
+pub advanced : (s : State) (e : Event) {r : Stepped} → sound s ≡ true → r ≡ settled s (outcome e (view s)) → (r ≡ stepOf s e) × (sound (r .state) ≡ true)
+unfolding stepOf settled
+advanced s e {r} h k =
+    let q : r ≡ stepOf s e = k ∙ rw h refl in
+    (q, rw q (sound-stays .next s e h))
+
+pub next-fits : {s : State} {i : ℕ} {p : Process} → Caller s i p → s .next ≤ 65536
+unfolding view
+next-fits c = fit-next _ _ (caller-ok c .frame .fit) .1
 
 -- ---- the process where the search for the caller ends, and who it is
 

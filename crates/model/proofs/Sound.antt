@@ -18,7 +18,7 @@ use Rattle.rules.specs.Sound.{zeroProcess, sound}
 use Rattle.rules.specs.declared.state.Ids.{Ids}
 use Rattle.rules.specs.declared.state.Process.{Process}
 use Rattle.rules.specs.declared.state.State.{State}
-use Rattle.model.specs.Laid.{Lays}
+use Rattle.machine.specs.Laid.{Lays}
 
 -- ---- the unused places
 

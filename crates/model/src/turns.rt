@@ -1,9 +1,8 @@
 // Events one after another, on one state that is changed in place.
-use crate::answers::*;
-use crate::children::*;
-use crate::clock::*;
-use crate::event::*;
-use crate::locking::*;
+use events::event::*;
+use events::plain;
+use events::refusal;
+use machine::*;
 use rules::state::*;
 use soundness::is_sound;
 ghost use mathlib.Core.Path.{_≡_};

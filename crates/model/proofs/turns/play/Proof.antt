@@ -21,16 +21,15 @@ use Rattle.rules.specs.declared.state.Process.{Process}
 use Rattle.rules.specs.declared.state.State.{State}
 use Rattle.rules.specs.declared.state.Event.{Event}
 use Rattle.rules.specs.declared.state.Stepped.{Stepped}
-use Rattle.model.specs.declared.event.Course.{Course}
-use Rattle.model.specs.Laid.{Lays, Caller}
-use Rattle.model.specs.Course.{ownTurn, follows, acts, OfEvent}
-use Rattle.model.proofs.Places.{getD-any}
-use Rattle.model.proofs.Laying.{lays-fits, Seeking, seeking, seek}
+use Rattle.events.specs.declared.event.Course.{Course}
+use Rattle.machine.specs.Laid.{Lays, Caller}
+use Rattle.events.specs.Course.{ownTurn, follows, acts, OfEvent}
+use Rattle.machine.proofs.Places.{getD-any}
+use Rattle.machine.proofs.Laying.{lays-fits, Seeking, seeking, seek}
 use Rattle.model.proofs.Kept.{keeps, turn-pids}
-use Rattle.model.proofs.Locks.{caller-fits, lays-used}
+use Rattle.machine.proofs.Locks.{caller-fits, lays-used}
 use Rattle.model.proofs.Sound.{sound-lays}
-use Rattle.model.proofs.Events.{sound-machine, some-live, next-fits}
-use Rattle.model.proofs.Plays.{acting, ends, lays-next, state-next, answers-next}
+use Rattle.model.proofs.Plays.{sound-machine, some-live, next-fits, acting, ends, lays-next, state-next, answers-next}
 
 abbrev Inv-loop2 : tie.InvT-loop2
 Inv-loop2 n s es answers k e i₀ i = Seeking (e .caller) s i × (i < s .live)

@@ -1,0 +1,12 @@
+pub mod Places
+pub mod Laying
+pub mod Masks
+pub mod Callers
+pub mod Marks
+pub mod Sweep
+pub mod Comparing
+pub mod Locks
+pub mod Births
+pub mod Ticks
+pub mod Endings
+pub mod Kills

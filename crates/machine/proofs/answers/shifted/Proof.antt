@@ -1,0 +1,23 @@
+-- `model::answers::shifted` meets its contract. Assumes nothing.
+use borrow.Author.Needs.{needs}
+use Rattle.machine.proofs.answers.shifted.Statement.{statement}
+use Rattle.machine.proofs.answers.shifted.Tie as tie
+use native.Mathlib.Omega.{arith}
+
+mul-result : tie.Need-mul-result
+mul-result c = search needs
+
+add-result : tie.Need-add-result
+add-result c = search needs
+
+mul-result-2 : tie.Need-mul-result-2
+mul-result-2 c = search needs
+
+returns : tie.Need-returns
+returns c = rw (c .if1 .taken) (omega arith)
+
+returns-2 : tie.Need-returns-2
+returns-2 c = rw (c .if1 .left) (omega arith)
+
+pub shifted-spec : {M : Type 1} → statement M
+shifted-spec = tie.close (tie.spec mul-result add-result mul-result-2 returns returns-2)
