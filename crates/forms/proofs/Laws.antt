@@ -6,11 +6,12 @@ use native.Mathlib.Omega.{arith}
 use mathlib.Core.Path.{_≡_, refl, sym, ap}
 use mathlib.Core.Bool.{Bool, true}
 use mathlib.Core.List.{List, [], _∷_, _++_, map, append-assoc}
-use lib.ListN.{length, getD, take, drop, length-append}
-use lib.Dec.{leb}
+use lib.ListN.{length, getD, take, drop, length-append, length-take, List·getD-eq-default}
+use lib.Dec.{leb, ltb}
 use lib.Seq.{drop-cons, getD-append-add, getD-take}
-use borrow.Author.Tests.{le-leb}
+use borrow.Author.Tests.{le-leb, ltb-true, ltb-false}
 use Rattle.locks.specs.Lists.{all}
+use Rattle.locks.proofs.Tests.{cases}
 use Rattle.papers.specs.Bytes.{number16, number32, run, sixteensFrom, joined, isSixteen}
 use Rattle.papers.specs.Layout.{field, sequenceCount, namesFit}
 use Rattle.papers.specs.Entries.{entryAt, entriesFrom}
@@ -167,3 +168,19 @@ module _ (b : List ℕ) (n : ℕ) where
   pub entries-front : (at m : ℕ) → at + 20 * m ≤ n → entriesFrom (take n b) at m ≡ entriesFrom b at m
   entries-front at zero h = refl
   entries-front at (suc m) h = rw (entry-front at (omega arith), entries-front (at + 20) m (omega arith))
+
+  run-front : (at k : ℕ) → at + k ≤ n → run (take n b) at k ≡ run b at k
+  run-front at zero h = refl
+  run-front at (suc k) h = rw (getD-take n b at 0 (omega arith), run-front (at + 1) k (omega arith))
+
+  pub sixteens-front : (at m : ℕ) → at + 16 * m ≤ n → sixteensFrom (take n b) at m ≡ sixteensFrom b at m
+  sixteens-front at zero h = refl
+  sixteens-front at (suc m) h = let e : run (take n b) at 16 ≡ run b at 16 = run-front at 16 (omega arith) in rw (e, sixteens-front (at + 16) m (omega arith))
+
+  pub bytes-front : Bytes b → Bytes (take n b)
+  bytes-front h i =
+      cases (ltb i n)
+      (λ l. rw (getD-take n b i 0 (ltb-true i n l)) (h i))
+      (λ l. let g = ltb-false i n l in
+      let e : getD (take n b) i 0 ≡ 0 = List·getD-eq-default (take n b) 0 {n = i} (omega (arith, length-take n b)) in
+      rw e (omega arith))

@@ -4,7 +4,7 @@ use native.Mathlib.Omega.{arith}
 use mathlib.Core.Path.{_≡_, refl, sym, ap, _∙_}
 use mathlib.Core.Bool.{Bool, true, false, not, _&&_}
 use mathlib.Core.List.{List, [], _∷_, _++_, map, append-nil}
-use lib.ListN.{length, take, drop, length-append, length-drop}
+use lib.ListN.{length, take, drop, length-append, length-drop, take-append-drop}
 use lib.Dec.{ltb}
 use lib.Seq.{take-at, drop-drop, append-snoc, drop-append-add}
 use borrow.Author.Tests.{not-false, eqb-true, leb-true, leb-false, ltb-true, ltb-false, le-leb, lt-leb, lt-ltb, le-ltb, eq-eqb, ne-eqb}
@@ -19,7 +19,7 @@ use Rattle.papers.specs.declared.entries.Entry.{Entry}
 use Rattle.papers.specs.declared.layout.Read.{Read}
 use Rattle.papers.specs.declared.layout.Read.the-variants as read
 use Rattle.papers.proofs.Runs.{sixteens-count}
-use Rattle.papers.proofs.Files.{Paper, PaperRead, broken, empty, some, paper-read}
+use Rattle.papers.proofs.Files.{Paper, PaperRead, broken, empty, some, paper-has, paper-read}
 use Rattle.forms.specs.declared.items.Writer.{Writer}
 use Rattle.forms.specs.declared.items.Refusal.{Refusal}
 use Rattle.forms.specs.declared.items.Refusal.the-variants.{Badpaper, Order, Full, Noroom}
@@ -27,10 +27,10 @@ use Rattle.forms.specs.declared.items.Added.{Added}
 use Rattle.forms.specs.declared.items.Added.the-variants.{Taken, Refused}
 use Rattle.forms.specs.Form.{paperBytes}
 use Rattle.forms.specs.Adding.{Item, sequence, event, counts, lengthFor, entriesIn, sequencesIn, hasCounts, begins, isBroken, isMisplaced, isFull, entriesWith, sequencesWith, inFront, laidOut, added, addedAll}
-use Rattle.forms.specs.Promises.{Holds, itemLong, grown, Left, EachLeaves, RefusedLeaves, Listed, taken, badpaper, order, full, noroom, AllListed, InOrder, OnAPaper, OnPapers, WriterRefusalNumbers, WritesAll, WrittenAgain}
-use Rattle.forms.proofs.Laws.{entries-count, sixteens-sixteen, paper-long, names, entries-front}
+use Rattle.forms.specs.Promises.{Holds, Bytes, BeginsWith, itemLong, grown, Left, EachLeaves, RefusedLeaves, Listed, taken, badpaper, order, full, noroom, AllListed, InOrder, OnAPaper, OnPapers, WriterRefusalNumbers, WritesAll, WrittenAgain}
+use Rattle.forms.proofs.Laws.{entries-count, sixteens-sixteen, paper-long, names, entries-front, sixteens-front, bytes-front}
 use Rattle.forms.proofs.Forms.{at-2, at-6, entries-read, sequences-read, made-fits, reads-back, one-form, names-have}
-use Rattle.forms.proofs.Calls.{unbroken, few, few-events}
+use Rattle.forms.proofs.Calls.{Whole, whole, unbroken, few, few-events}
 
 -- ---- a buffer in which a paper stands
 
@@ -112,6 +112,26 @@ before w b t =
     (λ h. let p = take (lengthFor w) b in
     let k : entriesFrom p 12 (w .events) ≡ entriesIn w b = entries-front b (lengthFor w) 12 (w .events) (omega arith) in
     rw (h .sequences, h .events, k) at (names-have p (h .fits)))
+
+pub begins-with : BeginsWith
+begins-with = record { made = λ es ss r h. p-begins es ss h r; only = λ w b k t. only w b k (whole w b t) }
+  where
+    only : (w : Writer) (b : List ℕ) → Bytes b → Whole w b → Holds (entriesIn w b) (sequencesIn w b) × (b ≡ paperBytes (entriesIn w b) (sequencesIn w b) ++ drop (lengthFor w) b)
+    only w b k h =
+        let n = lengthFor w in
+        let p = take n b in
+        let f = paper-has p (h .fits) in
+        let es : entriesOf p ≡ entriesIn w b = rw (h .events) (entries-front b n 12 (w .events) (omega arith)) in
+        let ss : sequencesOf p ≡ sequencesIn w b = rw (h .events, h .sequences) (sixteens-front b n (12 + 20 * w .events) (w .sequences) (omega arith)) in
+        let o : paperBytes (entriesIn w b) (sequencesIn w b) ≡ p = rw (es, ss) at (one-form p (bytes-front b n k) (h .fits)) in
+        let held : Holds (entriesIn w b) (sequencesIn w b) =
+        record {
+          events = rw (entries-count b 12 (w .events)) (omega (arith, f .events, h .events));
+          sequences = rw (sixteens-count b (12 + 20 * w .events) (w .sequences)) (omega (arith, f .sequences, h .sequences));
+          long = sixteens-sixteen b (12 + 20 * w .events) (w .sequences);
+          named = rw (sixteens-count b (12 + 20 * w .events) (w .sequences)) (rw (es, h .sequences) at (names-have p (h .fits)));
+        } in
+        (held, rw o (sym (take-append-drop n b)))
 
 -- how many there are then
 within : (w : Writer) (b : List ℕ) (i : Item) → isBroken w b ≡ false → isFull w i ≡ false

@@ -21,7 +21,7 @@ use Rattle.forms.specs.declared.items.Refusal.the-variants.{Badpaper, Or
 use Rattle.forms.specs.declared.items.Added.{Added}
 use Rattle.forms.specs.declared.items.Added.the-variants.{Taken, Refused}
 use Rattle.forms.specs.Form.{paperBytes, eventOf}
-use Rattle.forms.specs.Adding.{numberOf, Item, sequence, event, counts, newWriter, lengthFor, entriesIn, sequencesIn, entriesWith, sequencesWith, isBroken, isMisplaced, isFull, inFront, added, addedAll}
+use Rattle.forms.specs.Adding.{numberOf, Item, sequence, event, counts, newWriter, lengthFor, entriesIn, sequencesIn, entriesWith, sequencesWith, begins, isBroken, isMisplaced, isFull, inFront, added, addedAll}
 
 -- ---- a paper is its events and its sequences
 
@@ -56,6 +56,12 @@ Bytes file = (i : ℕ) → getD file i 0 < 256
 -- a paper has one form: its events and sequences give its bytes
 abbrev pub OneForm : Type 0
 OneForm = (p : List ℕ) → Bytes p → paperFits p ≡ true → paperBytes (entriesOf p) (sequencesOf p) ≡ p
+
+-- §3: "begin with a paper of the writer's counts": with the bytes of so many events and sequences, and anything behind them
+pub record BeginsWith : Type 0 where
+  pub made : (es : List Entry) (ss : List (List ℕ)) (r : List ℕ) → Holds es ss → begins (counts (length es) (length ss)) (paperBytes es ss ++ r) ≡ true
+  pub only : (w : Writer) (b : List ℕ) → Bytes b → begins w b ≡ true
+      → Holds (entriesIn w b) (sequencesIn w b) × (b ≡ paperBytes (entriesIn w b) (sequencesIn w b) ++ drop (lengthFor w) b)
 
 -- ---- one call
 
