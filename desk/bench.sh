@@ -1,7 +1,7 @@
 #!/usr/bin/env bash
 # Measures the archive's routines against plain C and writes docs/PERFORMANCE.md's figures and docs/performance.svg.
-# Usage: [ARCHIVE=libmarker.a] desk/bench.sh [--check] [--quick]
-#   ARCHIVE   an archive that is there already; else `rt staticlib marker` makes it
+# Usage: [ARCHIVE=libbrinefeather.a] desk/bench.sh [--check] [--quick]
+#   ARCHIVE   an archive that is there already; else `rt staticlib brinefeather` makes it
 #   --check   the exit status is 1 if a bar is missed
 #   --quick   a few seconds, less exact; writes no page
 # shellcheck disable=SC2086,SC2154 # tools.sh sets $cc_packages, $strict, $link and $run; their words are to be split
@@ -15,24 +15,21 @@ for word in "$@"; do
     case $word in
     --quick) quick=yes ;;
     --check) ;;
-    *) echo "usage: [ARCHIVE=libmarker.a] desk/bench.sh [--check] [--quick]" >&2; exit 2 ;;
+    *) echo "usage: [ARCHIVE=libbrinefeather.a] desk/bench.sh [--check] [--quick]" >&2; exit 2 ;;
     esac
 done
 
 need "$cc" $cc_packages
-archive=${ARCHIVE:-target/staticlib/libmarker.a}
+archive=${ARCHIVE:-$archive}
 made="a given one, \`$archive\`"
 if [ -z "${ARCHIVE:-}" ]; then
-    quietly rt staticlib marker
-    made="made by \`rt staticlib marker\`"
+    quietly rt staticlib brinefeather
+    made="made by \`rt staticlib brinefeather\`"
 fi
 work=$(mktemp -d)
 trap 'rm -rf "$work"' EXIT
 $cc $strict -pthread $link -o "$work/bench" desk/bench.c desk/generate.c desk/plain.c "$archive"
 
-# The emulator plays `rep movsb` byte by byte: there the C library is told, for both, to copy by vectors.
-vectors=glibc.cpu.x86_rep_movsb_threshold=1000000000:glibc.cpu.x86_rep_stosb_threshold=1000000000
-[ -z "$run" ] || export GLIBC_TUNABLES=$vectors
 status=0
 $run "$work/bench" "$@" | tee "$work/figures" || status=$?
 grep -q '^bar growth' "$work/figures" || exit 1
