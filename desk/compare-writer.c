@@ -58,8 +58,12 @@ static void put16(uint8_t *at, size_t n)
 
 static void draw_bytes(uint8_t *bytes, size_t len)
 {
-    for (size_t i = 0; i < len; i++)
-        bytes[i] = (uint8_t)generate_draw();
+    uint64_t eight = 0;
+
+    for (size_t i = 0; i < len; i++) {
+        eight = i % 8 ? eight >> 8 : generate_draw();
+        bytes[i] = (uint8_t)eight;
+    }
 }
 
 static size_t length_of(struct counts c)
@@ -287,17 +291,18 @@ static uint64_t add_in_both(const char *what, const struct call *c)
 
 /* ---- spoiled calls ---- */
 
-/* Other counts, more or fewer, as long as these, a refusal, anything; or only another upper half, which is not read. */
+/* Other counts, more or fewer, as long as these, or a refusal; or only another upper half, which is not read. */
 static void spoil_writer(struct call *c)
 {
     static const uint64_t others[] = {0, 1, 0x10000, 15, 18, 20, 26, 655375, 0xFFFF, 0xFFFF0000, 0xFFFFFFFF};
 
-    switch (below(6)) {
+    switch (below(7)) {
     case 0: c->writer = ONE_OF(others); break;
     case 1: c->writer += one_in(2) ? 1 : 0x10000; break;
     case 2: c->writer -= one_in(2) ? 1 : 0x10000; break;
     case 3: c->writer = (c->writer & 0xFFFF) << 16 | (c->writer >> 16 & 0xFFFF); break;
     case 4: c->writer += 0x40000 - 5; break; /* 4 events are as long as 5 sequences */
+    case 5: c->writer ^= UINT64_C(1) << below(32); break;
     default: c->writer = generate_draw() << 32 | (c->writer & 0xFFFFFFFF); break;
     }
 }
@@ -455,15 +460,16 @@ static const struct {
 } edges[] = {{{0, 0}, {0, 0}}, {{0, 1}, {0, 1}}, {{1, 0}, {1, 0}}, {{2, 3}, {2, 3}}, {{3, 2}, {0, 0}},
              {{0, 63}, {0, 63}}, {{0, 64}, {0, 64}}, {{0, 65}, {0, 65}}, {{1, 64}, {1, 64}}, {{1, 65}, {1, 65}},
              {{999, 64}, {999, 64}}, {{1000, 0}, {1000, 0}}, {{1000, 64}, {1000, 64}}, {{1001, 64}, {1001, 64}},
-             {{2, 1}, {1, 1}}, {{1, 1}, {2, 1}}, {{0, 5}, {4, 0}}, {{4, 0}, {0, 5}}};
+             {{2, 1}, {1, 1}}, {{1, 1}, {2, 1}}, {{0, 5}, {4, 0}}, {{4, 0}, {0, 5}}, {{2, 3}, {2, 67}},
+             {{2, 3}, {1026, 3}}}; /* 67 and 1,026 are 3 and 2 to whoever reads fewer bits */
 
 /* A paper of these counts in both buffers; each byte that has no rule differs from its neighbours. */
-static void lay_out(struct counts c)
+static void lay_out(struct counts c, size_t room)
 {
     uint8_t *paper = our_area + GUARD;
     const size_t numbers[] = {1, c.events, PAPER_HEADER, c.sequences, PAPER_HEADER + EVENT * c.events, length_of(c)};
 
-    clear_buffers(length_of(c) + MORE);
+    clear_buffers(room);
     for (size_t i = PAPER_HEADER; i < length_of(c); i++)
         paper[i] = (uint8_t)(37 * i);
     for (size_t i = 0; i < COUNT(numbers); i++)
@@ -473,15 +479,15 @@ static void lay_out(struct counts c)
     memcpy(plain_area, our_area, used);
 }
 
-enum { SOUND, OTHER_VERSION, LAST_NAMES_MORE, OTHER_SEQUENCE, DAMAGES };
+enum { HEADER_NUMBERS = PAPER_HEADER / 2, SOUND = HEADER_NUMBERS, LAST_NAMES_MORE, OTHER_SEQUENCE, DAMAGES };
 
-/* Breaks nothing, the version, the last event's sequence number, or, which breaks nothing, the last byte. */
-static void damage(struct counts c, int how)
+/* Breaks a number of the header, nothing, the last event's sequence number, or, which breaks nothing, the last byte. */
+static void damage(struct counts c, size_t how)
 {
     uint8_t *paper = our_area + GUARD;
 
-    if (how == OTHER_VERSION)
-        put16(paper, 2);
+    if (how < HEADER_NUMBERS)
+        put16(paper + 2 * how, get16(paper + 2 * how) + 1);
     else if (how == LAST_NAMES_MORE && c.events > 0)
         put16(paper + PAPER_HEADER + EVENT * c.events - 2, c.sequences + 1);
     else if (how == OTHER_SEQUENCE && c.sequences > 0)
@@ -490,19 +496,23 @@ static void damage(struct counts c, int how)
 }
 
 /*
- * Of these counts: an item of either kind, an event naming none, the last, or one too many; in five rooms, with the first
- * of them another upper half of the writer, which is not read.
+ * Of these counts: an item of either kind, an event naming none, the last, or one too many; in five rooms. In the first
+ * the item has bytes over and the writer another upper half, which are not read; in the second some items are short.
  */
 static struct call edge_call(struct counts says, size_t way)
 {
-    const size_t old = length_of(says);
+    const size_t old = length_of(says), room = way / 4 % 5;
     struct call c = {way % 4 > 0, writer_of(says), 0, {EV_TICK, 'A', 'B', 'C', 'D'}, way % 4 ? EVENT : SEQ};
     const size_t new = length_of(with_item(&c)), rooms[] = {new + 1, new, new - 1, old, old - 1};
 
-    c.room = rooms[way / 4 % COUNT(rooms)];
-    if (c.room == new + 1)
-        c.writer ^= 0xFFFFFFFF00000000;
+    c.room = rooms[room];
     put16(c.item + SEQUENCE_NUMBER, way % 4 == 1 ? 0 : way % 4 == 2 ? says.sequences : says.sequences + 1);
+    memset(c.item + EVENT, 'E', LONGEST_ITEM - EVENT);
+    if (room == 0) {
+        c.len = LONGEST_ITEM;
+        c.writer ^= 0xFFFFFFFF00000000;
+    } else if (room == 1 && way % 4 < 2)
+        c.len = 5;
     return c;
 }
 
@@ -511,11 +521,12 @@ void compare_writer_edges(void)
     enum { WAYS = 4 * 5 };
 
     for (size_t i = 0; i < COUNT(edges) * DAMAGES * WAYS; i++) {
-        const size_t edge = i / (DAMAGES * WAYS);
-        const struct call c = edge_call(edges[edge].says, i % WAYS);
+        const struct counts holds = edges[i / WAYS / DAMAGES].holds, says = edges[i / WAYS / DAMAGES].says;
+        const size_t longer = length_of(holds) > length_of(says) ? length_of(holds) : length_of(says);
+        const struct call c = edge_call(says, i % WAYS);
 
-        lay_out(edges[edge].holds);
-        damage(edges[edge].holds, (int)(i / WAYS % DAMAGES));
+        lay_out(holds, longer + MORE);
+        damage(holds, i / WAYS % DAMAGES);
         add_in_both("edge", &c);
     }
 }

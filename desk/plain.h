@@ -1,8 +1,8 @@
 /*
  * Document 01 in plain C, in place, with requests 1 and 3 of document 02 (where a file is broken; a paper writer): the
  * model of the process, signal and lock calls, and paper, sheet, key and mark over it. Written from the documents by
- * helpers who had not seen the Rattle code. (The one of reader and marker had seen parts of the design notes; those of
- * requests 1 and 3 were given their reading: the fields and their order; the numbers that the writer is and returns.)
+ * helpers who had not seen the Rattle code of it. (The one of reader and marker had seen parts of the design notes;
+ * those of requests 1 and 3 were given their reading: the fields and their order; what the writer is and returns.)
  * The four plain_.. are as the four routines of brinefeather.h.
  */
 #ifndef PLAIN_H

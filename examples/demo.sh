@@ -42,7 +42,7 @@ build_reader() {
 
 build_transcribe() {
     need $cc $cc_packages
-    (cd "$root" && { archive_is_new || quietly rt staticlib brinefeather; })
+    (cd "$root" && { archive_is_new || prove staticlib brinefeather; })
     $cc $strict $link -o "$work/transcribe" "$root/desk/transcribe.c" "$root/$archive"
     transcriber="$run $work/transcribe"
 }
