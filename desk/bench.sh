@@ -20,7 +20,7 @@ for word in "$@"; do
 done
 
 need "$cc" $cc_packages
-archive=${ARCHIVE:-target/staticlib/libbrinefeather.a}
+archive=${ARCHIVE:-$archive}
 made="a given one, \`$archive\`"
 if [ -z "${ARCHIVE:-}" ]; then
     quietly rt staticlib brinefeather
@@ -30,9 +30,6 @@ work=$(mktemp -d)
 trap 'rm -rf "$work"' EXIT
 $cc $strict -pthread $link -o "$work/bench" desk/bench.c desk/generate.c desk/plain.c "$archive"
 
-# The emulator plays `rep movsb` byte by byte: there the C library is told, for both, to copy by vectors.
-vectors=glibc.cpu.x86_rep_movsb_threshold=1000000000:glibc.cpu.x86_rep_stosb_threshold=1000000000
-[ -z "$run" ] || export GLIBC_TUNABLES=$vectors
 status=0
 $run "$work/bench" "$@" | tee "$work/figures" || status=$?
 grep -q '^bar growth' "$work/figures" || exit 1

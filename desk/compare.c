@@ -1,14 +1,16 @@
 /*
- * Plays generated papers, their sheets and damaged files through the archive's two routines and through the plain ones,
- * and compares every byte. Usage: compare PAPERS SEED. Fails too when an answer, refusal, call, edge or situation that
- * can be reached was not: 600 papers reach all of them. Either maker may be wrong, so nothing that a routine returns is
- * taken for a length here, nor for an offset unless the file is long enough.
+ * Plays generated papers, their sheets and damaged files through the archive's routines and through the plain ones, has
+ * each paper written by both (compare-writer.c), and compares every byte. Usage: compare PAPERS SEED. Fails too when an
+ * answer, refusal, call, edge or situation that can be reached was not: 600 papers reach all of them. Either maker may
+ * be wrong, so nothing that a routine returns is taken for a length here, nor for an offset unless the file is long
+ * enough.
  */
 #include <inttypes.h>
 #include <stdio.h>
 #include <stdlib.h>
 #include <string.h>
 #include "brinefeather.h"
+#include "compare.h"
 #include "generate.h"
 #include "observe.h"
 #include "plain.h"
@@ -28,7 +30,7 @@ struct file {
 };
 
 static const char *kind; /* of the paper that is played */
-static uint64_t refusals[BRINEFEATHER_REFUSALS + 1], papers, events_played, damaged, different;
+static uint64_t refusals[BRINEFEATHER_REFUSALS + 1], papers, events_played, damaged, items_written, different;
 
 /* ---- chance and files ---- */
 
@@ -92,7 +94,7 @@ static void keep_events(struct file *paper, size_t events)
 
 /* ---- the two side by side ---- */
 
-static void differ(const char *what, uint64_t ours, uint64_t plains)
+void compare_differ(const char *what, uint64_t ours, uint64_t plains)
 {
     if (different++ < 20)
         printf("DIFFERENT paper %" PRIu64 " (%s), %s: %016" PRIX64 ", plain %016" PRIX64 "\n", papers, kind, what,
@@ -121,11 +123,11 @@ static uint8_t *lend(const struct file *f)
 static void take_back(const char *what, uint8_t *bytes, const struct file *f)
 {
     if (bytes && memcmp(bytes, f->bytes, f->len) != 0)
-        differ(what, 0, 1);
+        compare_differ(what, 0, 1);
     free(bytes);
 }
 
-static void count_refusal(uint64_t n)
+void compare_count_refusal(uint64_t n)
 {
     const unsigned number = brinefeather_refused(n);
 
@@ -286,10 +288,10 @@ static uint64_t compare_marks(const char *what, const struct file *paper, const 
     uint64_t plains = plain_mark(p, paper->len, s, sheet->len);
 
     if (ours != plains)
-        differ(what, ours, plains);
+        compare_differ(what, ours, plains);
     take_back("paper written", p, paper);
     take_back("sheet written", s, sheet);
-    count_refusal(plains);
+    compare_count_refusal(plains);
     if (brinefeather_refused(plains))
         see_refusal(plains, paper, sheet);
     else
@@ -344,7 +346,7 @@ static void compare_bytes(const char *what, const struct file *paper, const uint
     if (i == size)
         return;
     snprintf(place, sizeof place, "%s, byte %zu of guard %d and buffer", what, i, GUARD);
-    differ(place, ours[i], plains[i]);
+    compare_differ(place, ours[i], plains[i]);
     show_event(paper, ours, plains, size, i);
 }
 
@@ -369,12 +371,12 @@ static void compare_keys(const char *what, const struct file *paper, size_t room
     our_length = brinefeather_key(p, paper->len, room || one_in(2) ? ours + GUARD : NULL, room);
     plain_length = plain_key(p, paper->len, plains + GUARD, room);
     if (our_length != plain_length)
-        differ(what, our_length, plain_length);
+        compare_differ(what, our_length, plain_length);
     compare_bytes(what, paper, ours, plains, size);
     if (!kept(ours, room, our_length, guard))
-        differ("a byte beside the key written", our_length, plain_length);
+        compare_differ("a byte beside the key written", our_length, plain_length);
     take_back("paper written", p, paper);
-    count_refusal(plain_length);
+    compare_count_refusal(plain_length);
     see_key(plain_length, room);
     key->len = room;
     memcpy(key->bytes, plains + GUARD, room);
@@ -480,7 +482,7 @@ static void play_sheets(const struct file *paper, const struct file *key, size_t
     static struct file sheet;
 
     if (!brinefeather_perfect(compare_marks("key as sheet", paper, key)))
-        differ("key as sheet not perfect", 0, 0);
+        compare_differ("key as sheet not perfect", 0, 0);
     for (int i = 0; i < SHEETS; i++) {
         copy(&sheet, key);
         damage_answers(&sheet, events);
@@ -530,7 +532,7 @@ static void play_paper(enum generate_theme theme, size_t events)
     kind = generate_name(theme);
     paper.len = generate_paper(theme, events, paper.bytes);
     if (paper.len == 0 || !observe_paper(paper.bytes)) {
-        differ("not played: the plain model comes to what cannot be", 0, 0);
+        compare_differ("not played: the plain model comes to what cannot be", 0, 0);
         return;
     }
     compare_keys("key", &paper, enough, &key);
@@ -540,6 +542,7 @@ static void play_paper(enum generate_theme theme, size_t events)
     compare_keys("key, no room", &paper, 0, &none);
     play_sheets(&paper, &key, events);
     play_damaged_papers(&paper, &key, events);
+    items_written += compare_writers(paper.bytes);
     events_played += events;
 }
 
@@ -668,9 +671,12 @@ static size_t draw_length(void)
 /* Returns how many of the files' refusals were not reached. */
 static unsigned print_refusals(void)
 {
+    static const unsigned numbers[] = {R_BADPAPER, R_BLANK, R_BADSHEET, R_NOROOM, R_FULL, R_ORDER};
     unsigned missed = 0;
 
-    for (unsigned i = BRINEFEATHER_BADPAPER; i <= BRINEFEATHER_NOROOM; i++) {
+    for (size_t n = 0; n < COUNT(numbers); n++) {
+        const unsigned i = numbers[n];
+
         printf("%10" PRIu64 "  refusal %u %s%s\n", refusals[i], i, brinefeather_refusal_name(i),
                refusals[i] ? "" : "   NOT REACHED");
         missed += refusals[i] == 0;
@@ -693,9 +699,11 @@ int main(int argc, char **argv)
         play_paper((enum generate_theme)(papers % GENERATE_THEMES), draw_length());
     play_limits();
     play_broken_files();
+    kind = "edges of the writer";
+    compare_writer_edges();
     missed = observe_print();
     missed += print_refusals();
-    printf("compare: %" PRIu64 " papers, %" PRIu64 " events, %" PRIu64 " damaged files, %" PRIu64 " different, "
-           "%u not reached\n", papers, events_played, damaged, different, missed);
+    printf("compare: %" PRIu64 " papers, %" PRIu64 " events, %" PRIu64 " damaged files, %" PRIu64 " items written, "
+           "%" PRIu64 " different, %u not reached\n", papers, events_played, damaged, items_written, different, missed);
     return different != 0 || missed != 0;
 }

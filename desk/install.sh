@@ -14,20 +14,18 @@ work=$(mktemp -d)
 trap 'rm -rf "$work"' EXIT
 
 need $cc $cc_packages
-need $own_cc $own_cc_packages
 echo "Proving and building what is not there yet: minutes, the first time .."
 prove check mark key
 archive_is_new || prove staticlib brinefeather
-$cc $strict $link -o "$work/desk" desk/desk.c target/staticlib/libbrinefeather.a
-$own_cc $strict -o "$work/transcribe" desk/transcribe.c
+for program in desk transcribe; do $cc $strict $link -o "$work/$program" desk/$program.c $archive; done
 sed "s|@PREFIX@|$prefix|" desk/brinefeather.pc.in > "$work/brinefeather.pc"
 
 install -d "$to"/{bin,include,lib/pkgconfig,share/man/man1,share/man/man3}
 install -m 755 target/bin/mark target/bin/key "$work/desk" "$work/transcribe" "$to/bin"
 install -m 644 desk/brinefeather.h "$to/include"
-install -m 644 target/staticlib/libbrinefeather.a "$to/lib/libbrinefeather.a"
+install -m 644 $archive "$to/lib"
 install -m 644 "$work/brinefeather.pc" "$to/lib/pkgconfig"
 install -m 644 desk/man/*.1 "$to/share/man/man1"
 install -m 644 desk/man/*.3 "$to/share/man/man3"
 echo "Installed in $to: bin/{mark,key,desk,transcribe}, lib/libbrinefeather.a, include/brinefeather.h, manual pages"
-[ "$machine" = x86_64 ] || echo "mark, key, desk and the archive are for x86-64: on this machine ($machine) they need an emulator."
+[ "$machine" = x86_64 ] || echo "The programs and the archive are for x86-64: on this machine ($machine) they need an emulator."

@@ -130,7 +130,44 @@
     X(SHEET_OFFSET, "badsheet at 4, the offset") \
     X(SHEET_VERSION_LENGTH, "badsheet at 0, the version, though the file's length is broken too") \
     X(SHEET_VERSION_OFFSET, "badsheet at 0, the version, though the offset is broken too") \
-    X(SHEET_LENGTH_OFFSET, "badsheet at 2, for the file's length, though the offset is broken too")
+    X(SHEET_LENGTH_OFFSET, "badsheet at 2, for the file's length, though the offset is broken too") \
+    X(WRITE_FIRST, "written: the first item, over anything") \
+    X(WRITE_EXACT, "written: a paper that exactly fills its buffer") \
+    X(WRITE_LONGEST, "written: the longest paper") \
+    X(WRITE_MOVE, "written: an event ahead of two sequences or more, which move up") \
+    X(SEQUENCE_64, "written: sequence 64") \
+    X(EVENT_1000, "written: event 1,000") \
+    X(NAMES_LAST, "written: an event that names the last sequence") \
+    X(SHORT_ITEM, "written: an item short of bytes") \
+    X(LONG_ITEM, "written: an item with bytes over") \
+    X(NO_ITEM, "written: an item of no bytes") \
+    X(OTHER_UPPER, "written, though the writer's upper half is not its paper's length") \
+    X(WRITE_CHANGED, "written, though an event or a sequence was changed since the last call") \
+    X(WRITE_SHORT, "badpaper for a writer: the buffer is shorter than its paper") \
+    X(WRITE_HEADER, "badpaper for a writer: a number of the header is changed, and no count") \
+    X(WRITE_COUNTS, "badpaper for a writer: the header is that of other counts") \
+    X(WRITE_SAME_LENGTH, "badpaper for a writer: the header is that of other counts, and the paper as long") \
+    X(WRITE_BEYOND, "badpaper for a writer: counts that no paper has, though the buffer has them too") \
+    X(WRITE_EVENT, "badpaper for a writer: only the sequence number of an event is changed") \
+    X(WRITE_LAST_EVENT, "badpaper for a writer: only that of the last event of two or more") \
+    X(WRITE_REFUSAL, "badpaper for a writer that is a refusal") \
+    X(WRITE_BAD_ORDER, "badpaper for a writer, though it would be order too") \
+    X(WRITE_BAD_FULL, "badpaper for a writer, though it would be full too") \
+    X(WRITE_BAD_ROOM, "badpaper for a writer, though there would be no room either") \
+    X(ORDER_SEQUENCE, "order: a sequence after an event") \
+    X(ORDER_EVENT, "order: an event that names one sequence more than there are") \
+    X(ORDER_FIRST, "order: the first item is an event that names a sequence") \
+    X(ORDER_FULL_SEQUENCE, "order, though it would be full too: a sequence") \
+    X(ORDER_FULL_EVENT, "order, though it would be full too: an event") \
+    X(ORDER_ROOM_SEQUENCE, "order, though there is no room: a sequence") \
+    X(ORDER_ROOM_EVENT, "order, though there is no room: an event") \
+    X(SEQUENCE_65, "full: sequence 65") \
+    X(EVENT_1001, "full: event 1,001") \
+    X(FULL_ROOM_SEQUENCE, "full, though there is no room: a sequence") \
+    X(FULL_ROOM_EVENT, "full, though there is no room: an event") \
+    X(ONE_SHORT, "noroom: one byte short of the paper with the new item") \
+    X(NO_MORE_ROOM, "noroom: a buffer just as long as the old paper") \
+    X(NO_BUFFER, "noroom: a buffer of no bytes")
 
 #define OBSERVE_NUMBER(name, text) OBSERVE_##name,
 enum observe_situation { OBSERVE_SITUATIONS(OBSERVE_NUMBER) OBSERVE_COUNT };

@@ -1,5 +1,6 @@
-/* Worked cases (a) to (k) of document 01, further cases, broken files (request 1 of document 02), and a random walk
-   that tests soundness, refusals, masks and a slow second reading of the lock rules. */
+/* Worked cases (a) to (k) of document 01, further cases, broken files (request 1 of document 02), papers written item
+   by item (request 3), and a random walk that tests soundness, refusals, masks and a slow second reading of the lock
+   rules. */
 #include <stdio.h>
 #include <string.h>
 #include "plain.h"
@@ -663,6 +664,178 @@ static void files(void)
     order_of_files();
 }
 
+/* ---- papers written item by item ---- */
+
+static const uint8_t left_bin[16] = "LEFT BIN";
+static const uint8_t tick_event[20] = {2}, names_1[20] = {[19] = 1}, names_2[20] = {[19] = 2};
+static uint8_t desk[21100], desk_before[21100];
+static uint64_t writer;
+static size_t room;
+
+/* An empty writer over a buffer of anything. */
+static void clear_desk(size_t bytes)
+{
+    memset(desk, UNTOUCHED, sizeof desk);
+    writer = 0;
+    room = bytes;
+}
+
+/* Is the call refused, with no byte written? */
+static int refuses(uint64_t number, uint64_t answer)
+{
+    return answer == number && memcmp(desk, desk_before, sizeof desk) == 0;
+}
+
+/* Are all bytes but the first so many as they were? */
+static int leaves_rest(size_t length)
+{
+    return memcmp(desk + length, desk_before + length, sizeof desk - length) == 0;
+}
+
+static uint64_t add_sequence(const void *bytes, size_t len)
+{
+    memcpy(desk_before, desk, sizeof desk);
+    return plain_add_sequence(writer, desk, room, bytes, len);
+}
+
+static uint64_t add_event(const void *bytes, size_t len)
+{
+    memcpy(desk_before, desk, sizeof desk);
+    return plain_add_event(writer, desk, room, bytes, len);
+}
+
+static void add_many(size_t sequences, size_t events)
+{
+    for (size_t i = 0; i < sequences; i++)
+        writer = add_sequence(left_bin, 16);
+    for (size_t i = 0; i < events; i++)
+        writer = add_event(names_1, sequences ? 20 : 0);
+}
+
+/* A sequence, an event that names it, and a tick: the sequence moves up twice. */
+static void small_paper(void)
+{
+    static const uint8_t one[28] = {0, 1, 0, 0, 0, 12, 0, 1, 0, 12, 0, 28, 'L', 'E', 'F', 'T', ' ', 'B', 'I', 'N'};
+    static const uint8_t two[48] = {0, 1, 0, 1, 0, 12, 0, 1, 0, 32, 0, 48, [31] = 1,
+                                    'L', 'E', 'F', 'T', ' ', 'B', 'I', 'N'};
+    static const uint8_t three[68] = {0, 1, 0, 2, 0, 12, 0, 1, 0, 52, 0, 68, [31] = 1, [32] = 2,
+                                      [52] = 'L', 'E', 'F', 'T', ' ', 'B', 'I', 'N'};
+
+    clear_desk(68);
+    writer = add_sequence(left_bin, 16);
+    check(writer == 0x0000001C00000001u && memcmp(desk, one, 28) == 0 && leaves_rest(28));
+    writer = add_event(names_1, 20);
+    check(writer == 0x0000003000010001u && memcmp(desk, two, 48) == 0 && leaves_rest(48));
+    writer = add_event(tick_event, 20);
+    check(writer == 0x0000004400020001u && memcmp(desk, three, 68) == 0 && leaves_rest(68));
+    check(plain_mark(desk, 68, NULL, 0) == R_BADSHEET); /* so the paper is read */
+}
+
+/* Short, empty and overlong; what is missing is 0. */
+static void lengths_of_items(void)
+{
+    static const uint8_t long_event[25] = {9, 9, 9, 9, 9, 9, 9, 9, 9, 9, 9, 9, 9, 9, 9, 9, 9, 9, 0, 2, 8, 8, 8, 8, 8};
+    static const uint8_t wanted[100] = {0, 1, 0, 2, 0, 12, 0, 3, 0, 52, 0, 100,
+                                        [32] = 9, 9, 9, 9, 9, 9, 9, 9, 9, 9, 9, 9, 9, 9, 9, 9, 9, 9, 0, 2,
+                                        [52] = 'L', 'E', 'F', 'T', [68] = 'L', 'E', 'F', 'T', ' ', 'B', 'I', 'N'};
+    uint8_t overlong[20] = "LEFT BIN";
+
+    memset(overlong + 16, 7, 4);
+    clear_desk(104);
+    writer = add_sequence(left_bin, 4);
+    writer = add_sequence(overlong, 20);
+    writer = add_sequence(NULL, 0);
+    writer = add_event(NULL, 0);
+    writer = add_event(long_event, 25);
+    check(writer == 0x0000006400020003u && memcmp(desk, wanted, 100) == 0 && leaves_rest(100));
+    check(refuses(R_NOROOM, add_event(names_2, 20))); /* it may name 2 of 3 */
+    writer = 0; check(add_event(names_2, 19) == 0x0000002000010000u); /* its last byte is missing: it names none */
+}
+
+static void refusals_of_the_writer(void)
+{
+    clear_desk(47);
+    check(refuses(R_ORDER, add_event(names_1, 20)));
+    writer = add_sequence(left_bin, 16);
+    check(refuses(R_NOROOM, add_event(names_1, 20)));   /* a byte short */
+    check(refuses(R_ORDER, add_event(names_2, 20)));    /* though there is no room */
+    room = 48; check(add_event(names_1, 20) == 0x0000003000010001u);
+    writer = 0x00010001;                                /* the length is not read */
+    check(refuses(R_ORDER, add_sequence(left_bin, 16)));
+    check(refuses(R_NOROOM, add_event(tick_event, 20)));
+    desk[31] = 2; check(refuses(R_BADPAPER, add_sequence(left_bin, 16)));
+    desk[31] = 0; check(refuses(R_ORDER, add_sequence(left_bin, 16)));
+    room = 47; check(refuses(R_BADPAPER, add_event(tick_event, 20)));
+    clear_desk(0);
+    check(plain_add_sequence(0, NULL, 0, NULL, 0) == R_NOROOM);
+    check(plain_add_event(0, NULL, 0, NULL, 0) == R_NOROOM);
+    check(plain_add_event(1, NULL, 0, NULL, 0) == R_BADPAPER);
+    clear_desk(31); check(refuses(R_NOROOM, add_event(tick_event, 20)));
+    clear_desk(27); check(refuses(R_NOROOM, add_sequence(left_bin, 16)));
+}
+
+/* Any paper of the counts will do: only the header and the sequence numbers have a rule. */
+static void changed_buffers(void)
+{
+    uint8_t laid_out[84];
+
+    clear_desk(200);
+    add_many(2, 2);
+    memcpy(laid_out, desk, 84);
+    for (size_t at = 0; at < 84; at++) {
+        desk[at] ^= 0x80;
+        if (at < 12 || at / 2 == 15 || at / 2 == 25)
+            check(refuses(R_BADPAPER, add_event(names_1, 20)));
+        else
+            check(add_event(names_1, 20) == 0x0000006800030002u
+                  && desk[at < 52 ? at : at + 20] == (laid_out[at] ^ 0x80));
+        memcpy(desk, laid_out, 84);
+    }
+    writer = 0x00000003; check(refuses(R_BADPAPER, add_sequence(left_bin, 16)));    /* other counts */
+    writer = 0x00020001; check(refuses(R_BADPAPER, add_event(tick_event, 20)));
+    writer = 0xFFFFFFFF; check(refuses(R_BADPAPER, add_event(tick_event, 20)));
+    writer = 0; check(add_event(tick_event, 20) == 0x0000002000010000u);            /* over the old paper */
+}
+
+/* A paper of 4 events and one of 5 sequences are 92 bytes long. */
+static void same_length(void)
+{
+    clear_desk(200);
+    add_many(5, 0);
+    check(writer == 0x0000005C00000005u);
+    writer = 0x0000005C00040000u;
+    check(refuses(R_BADPAPER, add_event(tick_event, 20)));
+}
+
+static void limits_of_the_writer(void)
+{
+    clear_desk(21036);
+    add_many(64, 0);
+    check(writer == 0x0000040C00000040u);
+    check(refuses(R_FULL, add_sequence(left_bin, 16)));
+    add_many(0, 1);
+    check(refuses(R_ORDER, add_sequence(left_bin, 16)));    /* though it is full */
+    add_many(0, 999);
+    check(writer == 0x0000522C03E80040u && memcmp(desk + 20012, left_bin, 16) == 0);
+    check(refuses(R_FULL, add_event(tick_event, 20)));      /* though there is no room */
+    check(refuses(R_ORDER, add_event((const uint8_t[20]){[19] = 65}, 20)));
+    desk[20011] = 65;
+    check(refuses(R_BADPAPER, add_event(tick_event, 20)));
+    lay_paper(1, 65);                                       /* nothing is wrong but that it has too many */
+    memcpy(desk, paper.bytes, paper.len);
+    writer = 0x00010041; check(refuses(R_BADPAPER, add_sequence(left_bin, 16)));
+}
+
+static void writers(void)
+{
+    small_paper();
+    lengths_of_items();
+    refusals_of_the_writer();
+    changed_buffers();
+    same_length();
+    limits_of_the_writer();
+}
+
 /* ---- soundness ---- */
 
 static int same(const struct row *p, const struct row *q)
@@ -920,6 +1093,7 @@ int main(void)
 {
     cases();
     files();
+    writers();
     walk(200000);
     printf("plain-test: %d checks, %d failed\n", done, bad);
     return bad != 0;

@@ -692,3 +692,105 @@ uint64_t plain_key(const uint8_t *paper, size_t paper_len, uint8_t *key, size_t 
         play(&st, &p, i, key + SHEET_HEADER + ANSWER * i);
     return SHEET_HEADER + ANSWER * p.events;
 }
+
+/* ---- writing a paper ---- */
+
+/* A paper taken to pieces: each call takes the old one out of the buffer, adds the item and lays out the whole anew. */
+struct pieces {
+    size_t events, sequences;
+    uint8_t event[MOST_EVENTS][EVENT], sequence[MOST_SEQUENCES][SEQ];
+};
+
+/* Bytes past the item's end are 0. */
+static void read_item(uint8_t *piece, size_t size, const uint8_t *item, size_t len)
+{
+    memset(piece, 0, size);
+    if (len > 0)
+        memcpy(piece, item, len < size ? len : size);
+}
+
+/* Does the buffer begin with a paper of the writer's counts? A paper with no events is one, though it is blank. */
+static int read_old_paper(uint64_t writer, const uint8_t *buffer, size_t room, struct paper *old)
+{
+    const size_t events = writer >> 16 & 0xFFFF, sequences = writer & 0xFFFF;
+    const size_t length = PAPER_HEADER + EVENT * events + SEQ * sequences;
+    uint64_t refusal;
+
+    if (room < length)
+        return 0;
+    refusal = read_paper(buffer, length, old);
+    if (refusal != 0 && refusal != R_BLANK)
+        return 0;
+    return old->events == events && old->sequences == sequences;
+}
+
+/* 0, or the refusal. With both counts 0 it is the first call, and the buffer may hold anything. */
+static uint64_t take_to_pieces(uint64_t writer, const uint8_t *buffer, size_t room, struct pieces *p)
+{
+    struct paper old = {0, 0, buffer, buffer};
+
+    p->events = p->sequences = 0;
+    if ((writer & 0xFFFFFFFF) == 0)
+        return 0;
+    if (!read_old_paper(writer, buffer, room, &old))
+        return R_BADPAPER;
+    p->events = old.events;
+    p->sequences = old.sequences;
+    memcpy(p->event, old.event, EVENT * old.events);
+    memcpy(p->sequence, old.sequence, SEQ * old.sequences);
+    return 0;
+}
+
+/* The new writer, or noroom. */
+static uint64_t lay_out(const struct pieces *p, uint8_t *buffer, size_t room)
+{
+    const size_t sequence_offset = PAPER_HEADER + EVENT * p->events, length = sequence_offset + SEQ * p->sequences;
+
+    if (length > room)
+        return R_NOROOM;
+    write_two(buffer, VERSION);
+    write_two(buffer + 2, (uint16_t)p->events);
+    write_two(buffer + 4, PAPER_HEADER);
+    write_two(buffer + 6, (uint16_t)p->sequences);
+    write_two(buffer + 8, (uint16_t)sequence_offset);
+    write_two(buffer + 10, (uint16_t)length);
+    memcpy(buffer + PAPER_HEADER, p->event, EVENT * p->events);
+    memcpy(buffer + sequence_offset, p->sequence, SEQ * p->sequences);
+    return (uint64_t)length << 32 | (uint64_t)p->events << 16 | p->sequences;
+}
+
+uint64_t plain_add_sequence(uint64_t writer, uint8_t *paper, size_t paper_len,
+                            const uint8_t *sequence, size_t sequence_len)
+{
+    struct pieces p;
+    uint64_t refusal = take_to_pieces(writer, paper, paper_len, &p);
+
+    if (refusal)
+        return refusal;
+    if (p.events > 0)
+        return R_ORDER;
+    if (p.sequences == MOST_SEQUENCES)
+        return R_FULL;
+    read_item(p.sequence[p.sequences], SEQ, sequence, sequence_len);
+    p.sequences++;
+    return lay_out(&p, paper, paper_len);
+}
+
+uint64_t plain_add_event(uint64_t writer, uint8_t *paper, size_t paper_len,
+                         const uint8_t *event, size_t event_len)
+{
+    struct pieces p;
+    uint8_t new[EVENT];
+    uint64_t refusal = take_to_pieces(writer, paper, paper_len, &p);
+
+    if (refusal)
+        return refusal;
+    read_item(new, EVENT, event, event_len);
+    if (read_two(new + SEQUENCE_NUMBER) > p.sequences)
+        return R_ORDER;
+    if (p.events == MOST_EVENTS)
+        return R_FULL;
+    memcpy(p.event[p.events], new, EVENT);
+    p.events++;
+    return lay_out(&p, paper, paper_len);
+}

@@ -1,8 +1,9 @@
 /*
- * Document 01 in plain C, in place, with request 1 of document 02 (where a file is broken): the model of the process,
- * signal and lock calls, and paper, sheet, key and mark over it. Written from the documents by helpers who had not seen
- * the Rattle code. (The one of reader and marker had seen parts of the design notes; the one of request 1 was given its
- * reading: the fields and their order.) plain_mark and plain_key are as the two routines of brinefeather.h.
+ * Document 01 in plain C, in place, with requests 1 and 3 of document 02 (where a file is broken; a paper writer): the
+ * model of the process, signal and lock calls, and paper, sheet, key and mark over it. Written from the documents by
+ * helpers who had not seen the Rattle code of it. (The one of reader and marker had seen parts of the design notes;
+ * those of requests 1 and 3 were given their reading: the fields and their order; what the writer is and returns.)
+ * The four plain_.. are as the four routines of brinefeather.h.
  */
 #ifndef PLAIN_H
 #define PLAIN_H
@@ -17,7 +18,8 @@ enum { DONE, ASLEEP, ENDED, REFUSED };
 enum {
     R_BADSTATE = 1, R_BADCALLER, R_ASLEEP, R_TRAP, R_BADCALL, R_NOTMODELLED,
     R_PRIV, R_NOPROC, R_NOMEMORY, R_HELD, R_LOCKED, R_DEADLOCK, R_LCKTABLE,
-    R_NOTLOCKED, R_BADPAPER, R_BLANK, R_BADSHEET, R_NOROOM
+    R_NOTLOCKED, R_BADPAPER, R_BLANK, R_BADSHEET, R_NOROOM, R_FULL = 20,
+    R_ORDER = 26
 };
 enum { SLEEP_NONE, SLEEP_PAUSE, SLEEP_LOCK, SLEEP_TIMED };
 enum { WAKE_NEVER, WAKE_GRANTED, WAKE_SIGNAL, WAKE_TIME };
@@ -70,5 +72,10 @@ void state_event(struct state *st, const struct event *ev, struct answer *an);
 
 uint64_t plain_mark(const uint8_t *paper, size_t paper_len, const uint8_t *sheet, size_t sheet_len);
 uint64_t plain_key(const uint8_t *paper, size_t paper_len, uint8_t *key, size_t key_len);
+
+uint64_t plain_add_sequence(uint64_t writer, uint8_t *paper, size_t paper_len,
+                            const uint8_t *sequence, size_t sequence_len);
+uint64_t plain_add_event(uint64_t writer, uint8_t *paper, size_t paper_len,
+                         const uint8_t *event, size_t event_len);
 
 #endif

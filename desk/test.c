@@ -1,7 +1,8 @@
 /*
- * Holds the two routines of brinefeather.h to document 01 and to request 1 of document 02, the offsets. The bytes below,
- * and what should come of them, were worked out by hand from their rules. Every call is made twice: the files between
- * guard bytes, and then with nothing behind them, where a memory checker sees a read too far.
+ * Holds the four routines of brinefeather.h to document 01 and to requests 1 and 3 of document 02, the offsets and the
+ * paper writer. The bytes below, and what should come of them, were worked out by hand from their rules. Every call is
+ * made twice: the files between guard bytes, and then with nothing behind them, where a memory checker sees a read too
+ * far.
  */
 #include <inttypes.h>
 #include <limits.h>
@@ -12,6 +13,7 @@
 
 #define COUNT(list) (sizeof (list) / sizeof (list)[0])
 #define MARK(total, right, missing, surplus) 0x##total##right##missing##surplus##u
+#define WRITER(length, events, sequences) 0x##length##events##sequences##u
 #define BADPAPER_AT(offset) (BRINEFEATHER_BADPAPER + UINT64_C(65536) * (offset))
 #define BADSHEET_AT(offset) (BRINEFEATHER_BADSHEET + UINT64_C(65536) * (offset))
 
@@ -76,7 +78,38 @@
     "00 00 0000 0000 0000 00000002 00000000 " ZERO16 ZERO16 "01 00 0000 0000 0000 00000000 00000000 " \
     "00 00 0002 0000 0000 00000000 00000000 00 00 0000 0000 0000 00000005 12345678 "
 
-enum { GUARD = 256, STORE = 90000 };
+/* The README's paper by hand, and what it is after each call of the writer. */
+#define TABLE "5441424C 45000000 00000000 00000000 "
+#define FSHELL "01 48 0001 0000 0000 0000 00000000 00000000 0000 "
+#define LOCK_2 "01 3E 0002 0000 0000 0001 00000005 00000000 0001 " /* unshared */
+#define TRY_1 "01 3E 0001 0000 0000 0003 00000005 00000000 0001 "  /* unshared conditional */
+#define LOCK_1 "01 3E 0001 0000 0000 0001 00000005 00000000 0001 "
+#define UNLOCK_2 "01 3F 0002 0000 0000 0000 00000005 00000000 0001 "
+#define REPORT_1 "04 00 0001 0000 0000 0000 00000000 00000000 0000 "
+#define HAND_0 "0001 0000 000C 0001 000C 001C " TABLE
+#define HAND_1 "0001 0001 000C 0001 0020 0030 " FSHELL TABLE
+#define HAND_2 "0001 0002 000C 0001 0034 0044 " FSHELL LOCK_2 TABLE
+#define HAND_3 "0001 0003 000C 0001 0048 0058 " FSHELL LOCK_2 TRY_1 TABLE
+#define HAND_4 "0001 0004 000C 0001 005C 006C " FSHELL LOCK_2 TRY_1 LOCK_1 TABLE
+#define HAND_5 "0001 0005 000C 0001 0070 0080 " FSHELL LOCK_2 TRY_1 LOCK_1 UNLOCK_2 TABLE
+#define HAND_6 "0001 0006 000C 0001 0084 0094 " FSHELL LOCK_2 TRY_1 LOCK_1 UNLOCK_2 REPORT_1 TABLE
+#define TICK "02 00 0000 0000 0000 0000 00000000 00000000 0000 "
+#define TICK_NAMES(number) "02 00 0000 0000 0000 0000 00000000 00000000 " number " "
+#define ONE_TICK "0001 0001 000C 0000 0020 0020 " TICK
+
+/* Three sequences, no two bytes of them alike: an event moves them up by less than they are long. */
+#define THREE "01020304 05060708 090A0B0C 0D0E0F10 11121314 15161718 191A1B1C 1D1E1F20 " \
+    "21222324 25262728 292A2B2C 2D2E2F30 "
+
+/* Papers at the limits. */
+#define SEQUENCES_63 "0001 0000 000C 003F 000C 03FC " SEQUENCES("63")
+#define SEQUENCES_64 "0001 0000 000C 0040 000C 040C " SEQUENCES("64")
+#define SEQUENCES_65 "0001 0000 000C 0041 000C 041C " SEQUENCES("65")
+#define TICK_AND_64 "0001 0001 000C 0040 0020 0420 " TICK SEQUENCES("64")
+#define EVENTS_999 "0001 03E7 000C 0040 4E18 5218 " TICKS("999", "0040") SEQUENCES("64")
+#define EVENTS_1001 "0001 03E9 000C 0040 4E40 5240 " TICKS("1001", "0040") SEQUENCES("64")
+
+enum { GUARD = 256, STORE = 90000, ENOUGH = 22000 };
 
 /* Bytes to lend, and what stands behind them. No bytes is a buffer to fill; of length 0, a null pointer. */
 struct file {
@@ -89,7 +122,7 @@ struct area {
     size_t start, size;
 };
 
-static uint8_t paper_store[STORE], sheet_store[STORE], key_store[2][STORE], wanted_store[STORE];
+static uint8_t paper_store[STORE], sheet_store[STORE], key_store[2][STORE], wanted_store[STORE], item_store[STORE];
 static const char *group = "";
 static char fault[200];
 static unsigned checks, wrong;
@@ -256,11 +289,30 @@ static void marks_apart(void)
     check("perfect with a wrong answer", brinefeather_perfect(MARK(0002,0001,0000,0000)) != 0, 0);
 }
 
+/* Every writer that there can be. Of the first, with nothing given yet, it is 0. */
+static void writers_apart(void)
+{
+    begin("a writer taken apart");
+    for (uint64_t counts = 1; counts < 1001 * 65; counts++) {
+        const uint64_t events = counts / 65, sequences = counts % 65, length = 12 + 20 * events + 16 * sequences;
+        const uint64_t n = length << 32 | events << 16 | sequences;
+
+        not_refused("a writer", n);
+        check("its paper's length", brinefeather_paper_length(n), length);
+        check("its paper's events", brinefeather_paper_events(n), events);
+        check("its paper's sequences", brinefeather_paper_sequences(n), sequences);
+        check("perfect, a writer", brinefeather_perfect(n) != 0, 0);
+    }
+    not_refused("the first writer", 0);
+    check("the longest paper", brinefeather_paper_length(WRITER(522C,03E8,0040)), BRINEFEATHER_LONGEST_PAPER);
+}
+
 static void refusal_names(void)
 {
     static const char *const wanted[] = {"unknown", "badstate", "badcaller", "asleep", "trap", "badcall", "notmodelled",
                                          "priv", "noproc", "nomemory", "held", "locked", "deadlock", "lcktable",
-                                         "notlocked", "badpaper", "blank", "badsheet", "noroom", "unknown"};
+                                         "notlocked", "badpaper", "blank", "badsheet", "noroom", "unknown", "full",
+                                         "unknown", "unknown", "unknown", "unknown", "unknown", "order", "unknown"};
 
     begin("names of refusals");
     for (unsigned i = 0; i < COUNT(wanted); i++)
@@ -346,6 +398,254 @@ static const struct {
     {"a tick that names a sequence", NAMES("02 00 0000", "0002 "), ONE_BLANK, 22},
     {"the longest", FULL, THOUSAND, 16006},
 };
+
+enum item { SEQUENCE, EVENT };
+
+/* A call of the writer: what the buffer holds before it, and the paper that it begins with after it; none if refused. */
+static const struct {
+    const char *group, *what;
+    enum item kind;
+    uint64_t writer;
+    const char *buffer, *item;
+    uint64_t wanted;
+    const char *paper;
+} accepted[] = {
+    {"paper by hand", "its sequence", SEQUENCE, 0, "", "5441424C 45", WRITER(001C,0000,0001), HAND_0},
+    {"paper by hand", "event 1", EVENT, WRITER(001C,0000,0001), HAND_0, FSHELL, WRITER(0030,0001,0001), HAND_1},
+    {"paper by hand", "event 2", EVENT, WRITER(0030,0001,0001), HAND_1, LOCK_2, WRITER(0044,0002,0001), HAND_2},
+    {"paper by hand", "event 3", EVENT, WRITER(0044,0002,0001), HAND_2, TRY_1, WRITER(0058,0003,0001), HAND_3},
+    {"paper by hand", "event 4", EVENT, WRITER(0058,0003,0001), HAND_3, LOCK_1, WRITER(006C,0004,0001), HAND_4},
+    {"paper by hand", "event 5", EVENT, WRITER(006C,0004,0001), HAND_4, UNLOCK_2, WRITER(0080,0005,0001), HAND_5},
+    {"paper by hand", "event 6", EVENT, WRITER(0080,0005,0001), HAND_5, REPORT_1, WRITER(0094,0006,0001), HAND_6},
+    {"three sequences", "the third", SEQUENCE, WRITER(002C,0000,0002),
+        "0001 0000 000C 0002 000C 002C 01020304 05060708 090A0B0C 0D0E0F10 11121314 15161718 191A1B1C 1D1E1F20 ",
+        "21222324 25262728 292A2B2C 2D2E2F30", WRITER(003C,0000,0003), "0001 0000 000C 0003 000C 003C " THREE},
+    {"three sequences", "event 1", EVENT, WRITER(003C,0000,0003), "0001 0000 000C 0003 000C 003C " THREE, LOCK_2,
+        WRITER(0050,0001,0003), "0001 0001 000C 0003 0020 0050 " LOCK_2 THREE},
+    {"three sequences", "event 2", EVENT, WRITER(0050,0001,0003), "0001 0001 000C 0003 0020 0050 " LOCK_2 THREE,
+        TICK_NAMES("0003"), WRITER(0064,0002,0003), "0001 0002 000C 0003 0034 0064 " LOCK_2 TICK_NAMES("0003") THREE},
+    {"first call", "an event, no sequence", EVENT, 0, "", TICK, WRITER(0020,0001,0000), ONE_TICK},
+    {"first call", "over an old paper", EVENT, 0, HAND_6, TICK, WRITER(0020,0001,0000), ONE_TICK},
+    {"first call", "over an old paper of version 2", SEQUENCE, 0, BAD_PAPER, TABLE, WRITER(001C,0000,0001), HAND_0},
+    {"first call", "whatever the upper half", SEQUENCE, WRITER(FFFFFFFF,0000,0000), HAND_6, TABLE,
+        WRITER(001C,0000,0001), HAND_0},
+    {"upper half of the writer", "0", EVENT, WRITER(0000,0001,0001), HAND_1, LOCK_2, WRITER(0044,0002,0001), HAND_2},
+    {"upper half of the writer", "all ones", EVENT, WRITER(FFFFFFFF,0001,0001), HAND_1, LOCK_2, WRITER(0044,0002,0001),
+        HAND_2},
+    {"upper half of the writer", "another length", EVENT, WRITER(001C,0001,0001), HAND_1, LOCK_2,
+        WRITER(0044,0002,0001), HAND_2},
+    {"upper half of the writer", "15 for a paper of 15 sequences", SEQUENCE, BRINEFEATHER_BADPAPER,
+        "0001 0000 000C 000F 000C 00FC " SEQUENCES("15"), TABLE, WRITER(010C,0000,0010),
+        "0001 0000 000C 0010 000C 010C " SEQUENCES("15") TABLE},
+    {"items", "null sequence", SEQUENCE, 0, "", NULL, WRITER(001C,0000,0001), "0001 0000 000C 0001 000C 001C " ZERO16},
+    {"items", "empty sequence", SEQUENCE, 0, "", "", WRITER(001C,0000,0001), "0001 0000 000C 0001 000C 001C " ZERO16},
+    {"items", "a byte", SEQUENCE, WRITER(001C,0000,0001), HAND_0, "41", WRITER(002C,0000,0002),
+        "0001 0000 000C 0002 000C 002C " TABLE "41000000 00000000 00000000 00000000"},
+    {"items", "15 bytes", SEQUENCE, 0, "", "01020304 05060708 090A0B0C 0D0E0F", WRITER(001C,0000,0001),
+        "0001 0000 000C 0001 000C 001C 01020304 05060708 090A0B0C 0D0E0F00"},
+    {"items", "17 bytes", SEQUENCE, 0, "", "01020304 05060708 090A0B0C 0D0E0F10 11", WRITER(001C,0000,0001),
+        "0001 0000 000C 0001 000C 001C 01020304 05060708 090A0B0C 0D0E0F10"},
+    {"items", "null event", EVENT, 0, "", NULL, WRITER(0020,0001,0000),
+        "0001 0001 000C 0000 0020 0020 00 00 0000 " ZERO16},
+    {"items", "empty event", EVENT, WRITER(001C,0000,0001), HAND_0, "", WRITER(0030,0001,0001),
+        "0001 0001 000C 0001 0020 0030 00 00 0000 " ZERO16 TABLE},
+    {"items", "a tick of one byte", EVENT, 0, "", "02", WRITER(0020,0001,0000), ONE_TICK},
+    {"items", "19 bytes, the number's lower byte missing", EVENT, 0, "",
+        "01020304 05060708 090A0B0C 0D0E0F10 1112 00", WRITER(0020,0001,0000),
+        "0001 0001 000C 0000 0020 0020 01020304 05060708 090A0B0C 0D0E0F10 1112 0000"},
+    {"items", "21 bytes", EVENT, WRITER(001C,0000,0001), HAND_0, "FFFFFFFF FFFFFFFF FFFFFFFF FFFFFFFF FFFF 0001 FF",
+        WRITER(0030,0001,0001), "0001 0001 000C 0001 0020 0030 FFFFFFFF FFFFFFFF FFFFFFFF FFFFFFFF FFFF 0001 " TABLE},
+    {"items", "a thousand bytes", EVENT, 0, "", TICK "*50:20", WRITER(0020,0001,0000), ONE_TICK},
+    {"sequence number", "the last sequence", EVENT, WRITER(040C,0000,0040), SEQUENCES_64, TICK_NAMES("0040"),
+        WRITER(0420,0001,0040), "0001 0001 000C 0040 0020 0420 " TICK_NAMES("0040") SEQUENCES("64")},
+    {"limits", "sequence 64", SEQUENCE, WRITER(03FC,0000,003F), SEQUENCES_63, ZERO16, WRITER(040C,0000,0040),
+        SEQUENCES_64},
+    {"limits", "event 1000", EVENT, WRITER(5218,03E7,0040), EVENTS_999, TICK_NAMES("0040"), WRITER(522C,03E8,0040),
+        FULL},
+    {"changed buffer", "another sequence, another event", EVENT, WRITER(0044,0002,0001),
+        "0001 0002 000C 0001 0034 0044 " REPORT_1 TICK_NAMES("0001") "FFFFFFFF FFFFFFFF FFFFFFFF FFFFFFFF ", FSHELL,
+        WRITER(0058,0003,0001), "0001 0003 000C 0001 0048 0058 " REPORT_1 TICK_NAMES("0001") FSHELL
+        "FFFFFFFF FFFFFFFF FFFFFFFF FFFFFFFF "},
+};
+
+/* With room for anything, if no room is given. */
+static const struct {
+    const char *group, *what;
+    enum item kind;
+    uint64_t writer;
+    const char *buffer;
+    size_t room;
+    const char *item;
+    unsigned wanted;
+} refused[] = {
+    {"order", "a sequence after an event", SEQUENCE, WRITER(0030,0001,0001), HAND_1, 0, TABLE, BRINEFEATHER_ORDER},
+    {"order", "a sequence after an event, none before", SEQUENCE, WRITER(0020,0001,0000), ONE_TICK, 0, TABLE,
+        BRINEFEATHER_ORDER},
+    {"order", "an event names 1 of none", EVENT, 0, "", 0, TICK_NAMES("0001"), BRINEFEATHER_ORDER},
+    {"order", "an event names 2 of 1", EVENT, WRITER(001C,0000,0001), HAND_0, 0, TICK_NAMES("0002"), BRINEFEATHER_ORDER},
+    {"order", "an event names 256 of 1", EVENT, WRITER(0030,0001,0001), HAND_1, 0, TICK_NAMES("0100"),
+        BRINEFEATHER_ORDER},
+    {"order", "the number's upper byte only", EVENT, WRITER(001C,0000,0001), HAND_0, 0,
+        "02000000 00000000 00000000 00000000 0000 01", BRINEFEATHER_ORDER},
+    {"order", "an event names 65,535 of 64", EVENT, WRITER(040C,0000,0040), SEQUENCES_64, 0, TICK_NAMES("FFFF"),
+        BRINEFEATHER_ORDER},
+    {"full", "sequence 65", SEQUENCE, WRITER(040C,0000,0040), SEQUENCES_64, 0, TABLE, BRINEFEATHER_FULL},
+    {"full", "event 1001", EVENT, WRITER(522C,03E8,0040), FULL, 0, TICK, BRINEFEATHER_FULL},
+    {"noroom", "a null buffer, a sequence", SEQUENCE, 0, NULL, 0, TABLE, BRINEFEATHER_NOROOM},
+    {"noroom", "a null buffer, an event", EVENT, 0, NULL, 0, TICK, BRINEFEATHER_NOROOM},
+    {"noroom", "the buffer is just the old paper's", EVENT, WRITER(0030,0001,0001), HAND_1, 48, TICK,
+        BRINEFEATHER_NOROOM},
+    {"badpaper", "a null buffer", EVENT, WRITER(0000,0001,0000), NULL, 0, TICK, BRINEFEATHER_BADPAPER},
+    {"badpaper", "anything in the buffer", EVENT, WRITER(0030,0001,0001), "", 0, TICK, BRINEFEATHER_BADPAPER},
+    {"badpaper", "an event more than the writer's", EVENT, WRITER(0030,0001,0001), HAND_2, 0, TICK,
+        BRINEFEATHER_BADPAPER},
+    {"badpaper", "an event fewer than the writer's", EVENT, WRITER(0058,0003,0001), HAND_2, 0, TICK,
+        BRINEFEATHER_BADPAPER},
+    {"badpaper", "the counts changed round", EVENT, WRITER(0034,0001,0002), HAND_2, 0, TICK, BRINEFEATHER_BADPAPER},
+    {"badpaper", "5 sequences, and the writer's 4 events are as long", EVENT, WRITER(005C,0004,0000),
+        "0001 0000 000C 0005 000C 005C " SEQUENCES("5"), 0, TICK, BRINEFEATHER_BADPAPER},
+    {"badpaper", "4 events, and the writer's 5 sequences are as long", SEQUENCE, WRITER(005C,0000,0005),
+        "0001 0004 000C 0000 005C 005C " TICKS("4", "0000"), 0, TABLE, BRINEFEATHER_BADPAPER},
+    {"badpaper", "a blank paper", SEQUENCE, WRITER(001C,0000,0001), BLANK, 0, TABLE, BRINEFEATHER_BADPAPER},
+    {"badpaper", "65 sequences, all else sound", SEQUENCE, WRITER(041C,0000,0041), SEQUENCES_65, 0, TABLE,
+        BRINEFEATHER_BADPAPER},
+    {"badpaper", "1001 events, all else sound", EVENT, WRITER(5240,03E9,0040), EVENTS_1001, 0, TICK,
+        BRINEFEATHER_BADPAPER},
+    {"badpaper", "the most that a writer can say", EVENT, UINT64_MAX, FULL, 0, TICK, BRINEFEATHER_BADPAPER},
+    {"badpaper", "the first event's sequence number", EVENT, WRITER(522C,03E8,0040),
+        FULL_HEADER TICKS("1", "0041") TICKS("999", "0040") SEQUENCES("64"), 0, TICK, BRINEFEATHER_BADPAPER},
+    {"badpaper", "the last event's sequence number", EVENT, WRITER(522C,03E8,0040),
+        FULL_HEADER TICKS("999", "0040") TICKS("1", "0041") SEQUENCES("64"), 0, TICK, BRINEFEATHER_BADPAPER},
+    {"refusal as writer", "15", EVENT, BRINEFEATHER_BADPAPER, HAND_1, 0, TICK, BRINEFEATHER_BADPAPER},
+    {"refusal as writer", "18", EVENT, BRINEFEATHER_NOROOM, HAND_1, 0, TICK, BRINEFEATHER_BADPAPER},
+    {"refusal as writer", "20", SEQUENCE, BRINEFEATHER_FULL, SEQUENCES_64, 0, TABLE, BRINEFEATHER_BADPAPER},
+    {"refusal as writer", "26", SEQUENCE, BRINEFEATHER_ORDER, HAND_1, 0, TABLE, BRINEFEATHER_BADPAPER},
+    {"refusal as writer", "badpaper at 10", EVENT, BADPAPER_AT(10), HAND_1, 0, TICK, BRINEFEATHER_BADPAPER},
+    {"two at once", "15 and 26, a sequence", SEQUENCE, WRITER(0034,0002,0000), BAD_PAPER, 0, TABLE,
+        BRINEFEATHER_BADPAPER},
+    {"two at once", "15 and 26, an event", EVENT, WRITER(0034,0002,0000), BAD_PAPER, 0, TICK_NAMES("0009"),
+        BRINEFEATHER_BADPAPER},
+    {"two at once", "15 and 20, a sequence", SEQUENCE, WRITER(040C,0000,0040),
+        "0002 0000 000C 0040 000C 040C " SEQUENCES("64"), 0, TABLE, BRINEFEATHER_BADPAPER},
+    {"two at once", "15 and 20, an event", EVENT, WRITER(522C,03E8,0040),
+        FULL_HEADER TICKS("999", "0040") TICKS("1", "0041") SEQUENCES("64"), 0, TICK, BRINEFEATHER_BADPAPER},
+    {"two at once", "15 and 18, an event", EVENT, WRITER(0034,0002,0000), BAD_PAPER, 52, TICK, BRINEFEATHER_BADPAPER},
+    {"two at once", "15 and 18, a sequence", SEQUENCE, WRITER(001C,0000,0001), "0001 0000 000C 0001 000C 001D " TABLE,
+        28, TABLE, BRINEFEATHER_BADPAPER},
+    {"two at once", "26 and 20, a sequence", SEQUENCE, WRITER(0420,0001,0040), TICK_AND_64, 0, TABLE,
+        BRINEFEATHER_ORDER},
+    {"two at once", "26 and 20, an event", EVENT, WRITER(522C,03E8,0040), FULL, 0, TICK_NAMES("0041"),
+        BRINEFEATHER_ORDER},
+    {"two at once", "26 and 18, a sequence after an event into a full buffer", SEQUENCE, WRITER(0030,0001,0001), HAND_1,
+        48, TABLE, BRINEFEATHER_ORDER},
+    {"two at once", "26 and 18, an event", EVENT, WRITER(0030,0001,0001), HAND_1, 48, TICK_NAMES("0002"),
+        BRINEFEATHER_ORDER},
+    {"two at once", "26 and 18, a null buffer", EVENT, 0, NULL, 0, TICK_NAMES("0001"), BRINEFEATHER_ORDER},
+    {"two at once", "20 and 18, event 1001 without room", EVENT, WRITER(522C,03E8,0040), FULL, 21036, TICK,
+        BRINEFEATHER_FULL},
+    {"two at once", "20 and 18, sequence 65 without room", SEQUENCE, WRITER(040C,0000,0040), SEQUENCES_64, 1036, TABLE,
+        BRINEFEATHER_FULL},
+    {"three at once", "26, 20 and 18, a sequence", SEQUENCE, WRITER(0420,0001,0040), TICK_AND_64, 1056, TABLE,
+        BRINEFEATHER_ORDER},
+    {"three at once", "26, 20 and 18, an event", EVENT, WRITER(522C,03E8,0040), FULL, 21036, TICK_NAMES("0041"),
+        BRINEFEATHER_ORDER},
+    {"all four at once", "an event", EVENT, WRITER(522C,03E8,0040),
+        FULL_HEADER TICKS("999", "0040") TICKS("1", "0041") SEQUENCES("64"), 21036, TICK_NAMES("0041"),
+        BRINEFEATHER_BADPAPER},
+};
+
+/* A paper that was written is read: its events are the writer's, or it has none yet. */
+static void read_back(const struct file *paper, uint64_t writer)
+{
+    const struct file sheet = hex(NO_ANSWERS, sheet_store);
+    const uint64_t events = brinefeather_paper_events(writer), n = mark(paper, &sheet);
+
+    check("the writer's length", brinefeather_paper_length(writer), paper->len);
+    check("the paper read", n, events ? events << 48 | events << 16 : BRINEFEATHER_BLANK);
+}
+
+struct call {
+    enum item kind;
+    uint64_t writer;
+    struct file holds, item;
+};
+
+static struct call read_call(enum item kind, uint64_t writer, const char *holds, const char *item)
+{
+    return (struct call){kind, writer, hex(holds, paper_store), hex(item, item_store)};
+}
+
+/* What stands in the buffer behind what it holds: from byte to byte and from call to call something else. */
+static void fill_behind(size_t held, int again)
+{
+    for (size_t i = held; i < ENOUGH; i++)
+        paper_store[i] = (uint8_t)(again ? 251 * i + 7 : 37 * i + 101);
+}
+
+/* Only the wanted paper may be written. */
+static void add(const char *what, const struct call *c, size_t room, uint64_t number, const struct file *wanted)
+{
+    for (int again = 0; again < 2; again++) {
+        const struct file buffer = {c->holds.bytes, room, 0};
+        struct area b, i;
+        const uint8_t *item = lend(&i, &c->item, again);
+        uint8_t *paper;
+        uint64_t n;
+
+        fill_behind(c->holds.len, again);
+        paper = lend(&b, &buffer, again);
+        n = c->kind == EVENT ? brinefeather_add_event(c->writer, paper, room, item, c->item.len)
+                             : brinefeather_add_sequence(c->writer, paper, room, item, c->item.len);
+        check(what, n, number);
+        check(what, memcmp(b.now + b.start, wanted->bytes, wanted->len) == 0, 1);
+        take_back(&i, 0, "the item and its guards as they were");
+        take_back(&b, wanted->len, "all but the paper as it was");
+    }
+}
+
+static void refuse(const char *what, const struct call *c, size_t room, unsigned number)
+{
+    static const struct file none = {wanted_store, 0, 0};
+
+    add(what, c, room, number, &none);
+}
+
+/* In a buffer one byte short, exactly long enough, and longer. */
+static void play_accepted(void)
+{
+    for (size_t i = 0; i < COUNT(accepted); i++) {
+        const struct call c = read_call(accepted[i].kind, accepted[i].writer, accepted[i].buffer, accepted[i].item);
+        const struct file wanted = hex(accepted[i].paper, wanted_store);
+
+        begin(accepted[i].group);
+        refuse("one byte short", &c, wanted.len - 1, BRINEFEATHER_NOROOM);
+        add(accepted[i].what, &c, wanted.len, accepted[i].wanted, &wanted);
+        add(accepted[i].what, &c, wanted.len + 1, accepted[i].wanted, &wanted);
+        add(accepted[i].what, &c, ENOUGH, accepted[i].wanted, &wanted);
+        read_back(&wanted, accepted[i].wanted);
+    }
+}
+
+static void play_refused(void)
+{
+    for (size_t i = 0; i < COUNT(refused); i++) {
+        const struct call c = read_call(refused[i].kind, refused[i].writer, refused[i].buffer, refused[i].item);
+        const size_t enough = refused[i].buffer ? ENOUGH : 0;
+
+        begin(refused[i].group);
+        refuse(refused[i].what, &c, refused[i].room ? refused[i].room : enough, refused[i].wanted);
+    }
+}
+
+/* A buffer shorter than the writer's paper does not begin with it, though the bytes are there. */
+static void buffers_too_short(void)
+{
+    const struct call c = read_call(EVENT, WRITER(0044,0002,0001), HAND_2, TICK);
+
+    begin("buffer shorter than the paper");
+    for (size_t room = 0; room < 68 + 20; room++)
+        refuse("without room", &c, room, room < 68 ? BRINEFEATHER_BADPAPER : BRINEFEATHER_NOROOM);
+}
 
 /* Badpaper and blank come before anything about the sheet or the buffer. */
 static void check_no_key(const struct file *paper, uint64_t refusal)
@@ -525,15 +825,40 @@ static void flipped_bits(const char *name, const char *text, size_t events, uint
     }
 }
 
+/* One bit changed between two calls: layout must not be, events and sequences may be, and stay changed. */
+static void changed_bits(void)
+{
+    const struct call c = read_call(EVENT, WRITER(0058,0003,0001), HAND_3, LOCK_1);
+
+    begin("one bit of the buffer changed between two calls");
+    for (size_t bit = 0; bit < 8 * c.holds.len; bit++) {
+        const struct file wanted = hex(HAND_4, wanted_store);
+
+        flip(paper_store, bit);
+        if (flipped(paper_store, bit / 8, 3, 0))
+            refuse("layout", &c, ENOUGH, BRINEFEATHER_BADPAPER);
+        else {
+            flip(wanted_store, bit < 8 * 72 ? bit : bit + 8 * 20); /* the sequence moves up */
+            add("no layout", &c, ENOUGH, WRITER(006C,0004,0001), &wanted);
+        }
+        flip(paper_store, bit);
+    }
+}
+
 int main(void)
 {
     refusals_apart();
     key_lengths_apart();
     paper_lengths_apart();
     marks_apart();
+    writers_apart();
     refusal_names();
     play_marks();
     play_keys();
+    play_accepted();
+    play_refused();
+    buffers_too_short();
+    changed_bits();
     wrong_bits();
     two_of_paper();
     two_of_sheet();

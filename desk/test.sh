@@ -9,7 +9,6 @@ cd "$(dirname "$0")/.."
 . desk/tools.sh
 unset PAPER SHEET KEY PREFIX DESTDIR
 root=$PWD
-archive=target/staticlib/libbrinefeather.a
 work=$(mktemp -d)
 declare -A running
 trap 'kill "${running[@]}" 2> /dev/null || true; rm -rf "$work"' EXIT
@@ -54,7 +53,7 @@ build() {
     quietly rt staticlib brinefeather
     quietly rt check mark key
     linked desk desk/desk.c
-    $own_cc $strict -o "$work/transcribe" desk/transcribe.c
+    linked transcribe desk/transcribe.c
 }
 
 vectors() {
@@ -65,7 +64,7 @@ vectors() {
 plain_model() {
     $own_cc $strict -o "$work/plain-test" desk/plain-test.c desk/plain.c
     last "$work/plain-test"
-    linked compare desk/compare.c desk/generate.c desk/observe.c desk/plain.c
+    linked compare desk/compare.c desk/compare-writer.c desk/generate.c desk/observe.c desk/plain.c
     $run "$work/compare" 600 1 || fail "compare 600 1"
 }
 
@@ -261,6 +260,7 @@ with 1000 events and 64 sequences it must be 21036 (offset 10))" "" overlong bla
 samples() {
     local folder
     joined transcribe
+    TRANSCRIBE="$run $work/transcribe" last desk/transcribe-test.sh 30 2
     examples/test.sh "${RULES:-/work/shared/01-scope.md}" || fail "examples/test.sh"
     for folder in examples/*/; do
         (cd "$folder" && $run "$work/desk" paper ./*.sheet) | sed '$d; s|^./||' | cmp -s - "${folder}marks" || fail "desk on $folder"
@@ -274,8 +274,8 @@ by_hand() {
     cd "$work/by-hand"
     sed -n '/^## A paper by hand$/,/^## /s/^    //p' "$root/README.md" > paper.txt
     sed -nE '/^## A paper by hand$/,/^## /s/^\| ([0-9]+) \| `([^`]*)` \|.*/\1: \2/p' "$root/README.md" > sheet.txt
-    "$work/transcribe" paper paper.txt paper
-    "$work/transcribe" sheet sheet.txt sheet
+    $run "$work/transcribe" paper paper.txt paper
+    $run "$work/transcribe" sheet sheet.txt sheet
     $load "$root/target/bin/key"
     cmp key sheet || fail "the README's paper by hand: its answers are not its key"
     cd "$root"
@@ -344,10 +344,16 @@ demo() {
 
 # ---- the installation: a C program that sees the installed files only, the programs and the manual pages
 
-# What a manual page and the README quote is desk/example.c.
-example_is_quoted() {
-    sed -n '/^\.EX$/,/^\.EE$/p' desk/man/brinefeather.3 | sed '1d; /^\.EE$/,$d; s/\\e/\\/g' | cmp - desk/example.c \
-        || fail "brinefeather(3) quotes another example than desk/example.c"
+# quoted NUMBER: the example of that number in the manual page.
+quoted() {
+    awk -v number="$1" '/^\.EX$/ { n++; next } /^\.EE$/ && n == number { exit } n == number' desk/man/brinefeather.3 \
+        | sed 's/\\e/\\/g'
+}
+
+# What a manual page and the README quote is desk/example.c, and for the page desk/example-writer.c too.
+examples_are_quoted() {
+    quoted 1 | cmp - desk/example.c || fail "brinefeather(3) quotes another example than desk/example.c"
+    quoted 3 | cmp - desk/example-writer.c || fail "brinefeather(3) quotes another example than desk/example-writer.c"
     sed -n '/^```c$/,/^```$/p' README.md | sed '1d; $d' | cmp - desk/example.c \
         || fail "the README quotes another example than desk/example.c"
 }
@@ -360,21 +366,25 @@ version_is_one() {
     [ "${header:-none}" = "$package" ] || fail "the header's version is '$header', the pkg-config file's '$package'"
 }
 
-example_compiles() {
-    local flags
+examples_compile() {
+    local flags name
     flags=$(PKG_CONFIG_PATH="$1/lib/pkgconfig" pkg-config --cflags --libs brinefeather)
     mkdir "$work/elsewhere"
-    cp desk/example.c "$work/elsewhere"
-    (cd "$work/elsewhere" && $cc $strict $link -o example example.c $flags)
-    $run "$work/elsewhere/example" | cmp - <(printf '0 of 2 right\n2 of 2 right\nrefused 17 (badsheet), offset 2\n') \
+    cp desk/example.c desk/example-writer.c "$work/elsewhere"
+    cd "$work/elsewhere"
+    for name in example example-writer; do $cc $strict $link -o $name $name.c $flags; done
+    $run ./example | cmp - <(printf '0 of 2 right\n2 of 2 right\nrefused 17 (badsheet), offset 2\n') \
         || fail "the example against the installed files"
+    $run ./example-writer | cmp - <(echo "148 bytes, 6 events, 1 sequence") || fail "the writer's example"
+    cmp paper "$work/by-hand/paper" || fail "the writer's example does not build the README's paper by hand"
+    cd "$root"
 }
 
 installed_programs_run() {
     local line
     line=$($run "$1/bin/desk" examples/table/paper examples/table/perfect.sheet | tail -n 1)
     [[ $line == "all: sheets 1 marked 1 perfect 1 "* ]] || fail "the installed desk: '$line'"
-    "$1/bin/transcribe" show examples/table/paper > /dev/null || fail "the installed transcribe"
+    $run "$1/bin/transcribe" show examples/table/paper > /dev/null || fail "the installed transcribe"
     mkdir "$work/desk-top"
     cp examples/table/paper "$work/desk-top/paper"
     cp examples/table/key "$work/desk-top/sheet"
@@ -404,14 +414,14 @@ odd_prefix_is_refused() {
 
 installation() {
     local prefix=$work/prefix
-    example_is_quoted
+    examples_are_quoted
     odd_prefix_is_refused
     quietly make --no-print-directory install PREFIX="$prefix"
     version_is_one "$prefix"
-    example_compiles "$prefix"
+    examples_compile "$prefix"
     installed_programs_run "$prefix"
     pages_read_well "$prefix/share/man"
-    echo "installation: $(find "$prefix" -type f | wc -l) files, the example compiled and ran"
+    echo "installation: $(find "$prefix" -type f | wc -l) files, the examples compiled and ran"
 }
 
 # ---- the documents

@@ -1,6 +1,8 @@
 # shellcheck shell=bash disable=SC2034 # to be sourced by bash, from the repository's root: who sources it uses the names
 # What the scripts share. The archive and the programs mark and key are for x86-64, whatever the machine is.
 #
+#   archive     where `rt staticlib brinefeather` puts it
+#   stand_in    how C that calls the archive's routines is compiled to call those of desk/plain.c in their place
 #   kit         the folder of the Rattle kit
 #   machine     x86_64, aarch64 ..
 #   cc          the compiler for C programs that link the archive; `need $cc $cc_packages` installs it
@@ -17,10 +19,15 @@ if [ "$machine" = x86_64 ]; then
     cc=$own_cc cc_packages=$own_cc_packages link="" run="" load=""
 else
     cc=x86_64-linux-gnu-gcc cc_packages="gcc-x86-64-linux-gnu libc6-dev-amd64-cross" link=-static
-    run=$kit/on/$machine/toolchain/bin/qemu-x86_64
+    # The emulator plays `rep movsb` byte by byte: so the C library is told to copy by vectors.
+    vectors=glibc.cpu.x86_rep_movsb_threshold=1000000000:glibc.cpu.x86_rep_stosb_threshold=1000000000
+    run="$kit/on/$machine/toolchain/bin/qemu-x86_64 -E GLIBC_TUNABLES=$vectors"
     load="$run $kit/toolchain/lib/ld-linux-x86-64.so.2 --library-path $kit/toolchain/lib"
 fi
 strict="-std=c11 -O2 -Wall -Wextra -pedantic -Wconversion -Werror"
+archive=target/staticlib/libbrinefeather.a
+stand_in="-Dbrinefeather_mark=plain_mark -Dbrinefeather_key=plain_key -Dbrinefeather_add_sequence=plain_add_sequence \
+    -Dbrinefeather_add_event=plain_add_event"
 
 # lack COMMAND: says what is missing, if something is: the command or, for a C compiler, the headers of the C library.
 lack() {
@@ -52,7 +59,6 @@ quietly() {
 
 # archive_is_new: the archive is there, and nothing that it is made of has changed since it was made.
 archive_is_new() {
-    local archive=target/staticlib/libbrinefeather.a
     [ -e $archive ] && [ -z "$(find crates crates.txt "$kit/KIT-ID" -newer $archive -print -quit)" ]
 }
 

@@ -1,7 +1,7 @@
 #!/usr/bin/env bash
-# Tries transcribe under the sanitizers: what it shows gives the same bytes again; what is wrong is told by its line, or
-# by its place in a file. Usage: transcribe-test.sh [COUNT [SEED]], of drawn papers and sheets. Needs no proof and no
-# archive.
+# Tries transcribe: what it shows gives the same bytes again; what is wrong is told by its line, or by its place in a
+# file. Usage: transcribe-test.sh [COUNT [SEED]], of drawn papers and sheets. It needs no proof and no archive: transcribe
+# runs under the sanitizers, with the plain routines in the archive's place. TRANSCRIBE="command" tries that one instead.
 # shellcheck disable=SC2086,SC2154 # lists of words are meant to be split; tools.sh gives them
 set -eu
 cd "$(dirname "$0")/.."
@@ -12,7 +12,8 @@ work=$(mktemp -d)
 trap 'rm -rf "$work"' EXIT
 sane="-g -fsanitize=address,undefined -fno-sanitize-recover=all"
 export ASAN_OPTIONS=detect_leaks=0 # nothing is allocated, and on some machines the search for leaks takes seconds a run
-$own_cc $strict $sane -o "$work/transcribe" desk/transcribe.c
+transcribe=${TRANSCRIBE:-$work/transcribe}
+[ "${TRANSCRIBE:-}" ] || $own_cc $strict $sane $stand_in -o "$work/transcribe" desk/transcribe.c desk/plain.c
 $own_cc $strict $sane -Idesk -o "$work/draw" desk/transcribe-test.c desk/generate.c desk/plain.c
 root=$PWD
 cd "$work"
@@ -23,8 +24,8 @@ fail() { echo "FAIL transcribe: $*"; exit 1; }
 # trip paper|sheet FILE
 trip() {
     trips=$((trips + 1))
-    ./transcribe show "$2" > shown.txt || fail "$2 is not shown"
-    ./transcribe "$1" shown.txt again || fail "what was shown of $2 is not taken"
+    $transcribe show "$2" > shown.txt || fail "$2 is not shown"
+    $transcribe "$1" shown.txt again || fail "what was shown of $2 is not taken"
     cmp -s "$2" again || fail "$2 is not the same again"
 }
 
@@ -34,7 +35,7 @@ writes() {
     [ "$1" = paper ] || skip=6
     tries=$((tries + 1))
     printf '%b' "$2" > text
-    ./transcribe "$1" text file || fail "'$2' is not taken"
+    $transcribe "$1" text file || fail "'$2' is not taken"
     wanted=$(tr -d ' ' <<< "${3,,}")
     got=$(tail -c +$((skip + 1)) file | od -An -v -tx1 | tr -d ' \n')
     [ "$got" = "$wanted" ] || fail "'$2' gives $got"
@@ -45,8 +46,8 @@ shows() {
     local shown
     tries=$((tries + 1))
     printf 'sequence A\nsequence "B C"\nsequence A\n%s\n' "$1" > text
-    ./transcribe paper text file || fail "'$1' is not taken"
-    shown=$(./transcribe show file | tail -n 1)
+    $transcribe paper text file || fail "'$1' is not taken"
+    shown=$($transcribe show file | tail -n 1)
     [ "$shown" = "${2:-$1}" ] || fail "'$1' is shown as '$shown'"
 }
 
@@ -56,7 +57,7 @@ says() {
     tries=$((tries + 1))
     printf '%b' "$2" > text
     rm -f file
-    if said=$(./transcribe "$1" text file 2>&1); then fail "'$2' is taken"; fi
+    if said=$($transcribe "$1" text file 2>&1); then fail "'$2' is taken"; fi
     [ ! -e file ] || fail "'$2' is wrong, but a file is written"
     [ "$said" = "$3" ] || fail "of '${2:0:60}' it is said: $said"
 }
@@ -64,7 +65,7 @@ says() {
 # tells NUMBER: the drawn file of that number is broken where the plain routines say, as a paper and as a sheet.
 tells() {
     tries=$((tries + 1))
-    if ./transcribe show "drawn/broken$1" > said 2>&1; then fail "drawn/broken$1 is shown"; fi
+    if $transcribe show "drawn/broken$1" > said 2>&1; then fail "drawn/broken$1 is shown"; fi
     sed -nE 's/^drawn.*: (bad[a-z]+): .* \(offset ([0-9]+)\)$/\1 \2/p' said | cmp -s - "drawn/places$1" \
         || fail "of drawn/broken$1 it is said: $(< said)"
 }
@@ -74,7 +75,7 @@ explains() {
     local words=$1 said
     shift
     tries=$((tries + 1))
-    said=$(./transcribe refused "$@") || fail "refused $*: it has no words"
+    said=$($transcribe refused "$@") || fail "refused $*: it has no words"
     [ "$said" = "$words" ] || fail "refused $*: the words are: $said"
 }
 
@@ -104,7 +105,7 @@ stops() {
     local wanted=$1 status=0
     shift
     tries=$((tries + 1))
-    ./transcribe "$@" > said 2>&1 || status=$?
+    $transcribe "$@" > said 2>&1 || status=$?
     [ $status = "$wanted" ] || fail "$*: status $status"
 }
 
@@ -142,8 +143,15 @@ writes sheet "\xEF\xBB\xBF1: done" "$zeros"
 writes sheet "done" "$zeros"
 writes sheet "asleep\nended ended=1\n" "01000000 000000000000000000000000 02000000 000200000000000000000000"
 writes sheet "refused deadlock\nrefused 12" "030C0000 000000000000000000000000 030C0000 000000000000000000000000"
+writes sheet "refused full\nrefused order" "03140000 000000000000000000000000 031A0000 000000000000000000000000"
 writes sheet "done D3=-1 A0=0x1000 woken=0,2 ended=15" "0000 0005 8000 0000 FFFFFFFF 00001000"
 writes sheet "bytes 00 01 02 03 04 05 06 07 08 09 0a 0B 0c 0D 0e ff" "000102030405060708090a0b0c0d0eff"
+
+# ---- the most that a paper may have
+{ seq 64 | sed 's/.*/sequence S&/'; seq 999 | sed 's/.*/process &: getproc/'; echo "process 1000: lock shared S64"; } > most.txt
+stops 0 paper most.txt most
+[ "$(stat -c %s most)" = 21036 ] || fail "a paper of 1,000 events and 64 sequences has $(stat -c %s most) bytes"
+[ "$($transcribe show most)" = "$(< most.txt)" ] || fail "a paper of 1,000 events and 64 sequences is shown as another"
 
 # ---- events, and how they are shown
 shows "process 2: lock unshared A"
@@ -206,10 +214,24 @@ says paper "2: tick\n3: tick\n" "text: line 1: this is event 1, not 2"
 says paper "tick\001\n" "text: line 1: the line is too long, or this is no text"
 says paper "$(printf '%1100d' 0)\n" "text: line 1: the line is too long, or this is no text"
 says paper "$(seq 1001 | sed 's/.*/tick/')" "text: line 1001: a paper has at most 1000 events"
+says paper "$(seq 1002 | sed 's/.*/tick/')" "text: line 1001: a paper has at most 1000 events
+text: line 1002: a paper has at most 1000 events"
 says paper "$(seq 65 | sed 's/.*/sequence S&/')" "text: line 65: a paper has at most 64 sequences"
+says paper "$(seq 65 | sed 's/.*/sequence S&/')\nprocess 1: lock shared S64\nprocess 1: lock shared S65" \
+    "text: line 65: a paper has at most 64 sequences
+text: line 67: no sequence is named 'S65'"
+says paper "$(seq 64 | sed 's/.*/sequence S&/')\ntick\nsequence S65" "text: line 66: sequences stand before the events"
+says paper "process 2: lok\nsequence T\n" "text: line 1: no call is named 'lok'
+text: line 2: sequences stand before the events"
+says paper "1000: tick\ntick\n" "text: line 1: this is event 1, not 1000"
+says paper "sequence T\nprocess 2: lock S=9\nprocess 2: lock S=65536\nprocess 2: lock S=-1\ntick\n" \
+    "text: line 2: there is no sequence 9: the paper has 1
+text: line 3: there is no sequence 65536: the paper has 1
+text: line 4: there is no sequence -1: the paper has 1"
 says sheet "done\nblank\n" "text: line 2: no answer is named 'blank'; the answers are done, asleep, ended, refused"
 says sheet "refused\n" "text: line 1: the refusal is missing"
 says sheet "refused lock\n" "text: line 1: no refusal is named 'lock'"
+says sheet "refused unknown\n" "text: line 1: no refusal is named 'unknown'"
 says sheet "refused 256\n" "text: line 1: the refusal is 256; it must be from 0 to 255"
 says sheet "done D2=1\n" "text: line 1: an answer has no 'D2'"
 says sheet "done woken=0,16\n" "text: line 1: a position is 16; it must be from 0 to 15"
@@ -231,14 +253,14 @@ stops 1 paper nofile file
 stops 1 paper . file
 stops 1 show nofile
 stops 1 show .
-stops 1 show transcribe
+stops 1 show draw
 stops 1 show "$root/examples/table/key" "$root/examples/table/paper"
 [ "$(< said)" = "$root/examples/table/key: badpaper: the header says that the events start at 6; they must start at 12 (offset 4)" ] \
     || fail "a key for a paper: $(< said)"
 stops 0 show "$root/examples/table/paper" "$root/examples/table/key"
 printf 'tick\n' > text
 stops 1 paper text nofolder/file
-stops 1 paper transcribe file
+stops 1 paper draw file
 for size in 1 5 11 12 13 32; do
     head -c "$size" "$root/examples/table/paper" > file
     stops 1 show file

@@ -1,6 +1,7 @@
 /*
  * Writes papers and sheets from text, and shows them as text: desk/man/transcribe.1 and examples/README.md say how the
  * lines read. Every paper and sheet that is laid out right can be shown, and what was shown gives the same bytes again.
+ * The archive's routines lay out papers, and say whether a file is laid out right.
  */
 #include <ctype.h>
 #include <stdarg.h>
@@ -16,8 +17,8 @@
 #define BYTE_ORDER_MARK "\xEF\xBB\xBF" /* some editors begin a text with it */
 
 enum { PAPER_HEADER = 12, EVENT = 20, SEQUENCE = 16, SHEET_HEADER = 6, ANSWER = 16 };
-enum { MOST = 1000, MOST_SEQUENCES = 64, LONGEST = PAPER_HEADER + EVENT * MOST + SEQUENCE * MOST_SEQUENCES };
-enum { PAPER_NUMBERS = PAPER_HEADER / 2, SHEET_NUMBERS = SHEET_HEADER / 2 }; /* of a header */
+enum { MOST = 1000, LONGEST = BRINEFEATHER_LONGEST_PAPER };
+enum { EVENT_COUNT = 1, ANSWER_COUNT = 1, SEQUENCE_COUNT = 3, SEQUENCE_START = 4, PAPER_LENGTH = 5 }; /* of a header */
 enum { MOST_COMPLAINTS = 20 };
 enum { CALL = 1, TICK, TAKE, REPORT };
 enum { DONE, ASLEEP, ENDED, REFUSED };
@@ -49,11 +50,12 @@ static const struct {
 static const char *const event_kinds[] = {NULL, NULL, "tick", "take", "report"};
 static const char *const answer_kinds[] = {"done", "asleep", "ended", "refused"};
 
-/* What a text gave so far, or what a file holds. */
+/* What a text gave so far, or what a file holds. The writer lays a paper out; before its first call it is empty. */
 static struct {
-    uint8_t event[MOST][EVENT], sequence[MOST_SEQUENCES][SEQUENCE];
-    size_t events, sequences;
-} paper;
+    uint8_t bytes[LONGEST];
+    uint64_t writer;
+    size_t place; /* of the last event of the text */
+} paper = {{0, 1, 0, 0, 0, PAPER_HEADER, 0, 0, 0, PAPER_HEADER, 0, PAPER_HEADER}, 0, 0};
 static struct {
     uint8_t answer[MOST][ANSWER];
     size_t answers;
@@ -107,6 +109,26 @@ static void put_header(uint8_t *file, const size_t *numbers, size_t count)
 {
     for (size_t i = 0; i < count; i++)
         put(file, (struct field){"header", 2 * i, 2}, (uint32_t)numbers[i]);
+}
+
+static size_t event_count(void)
+{
+    return header(paper.bytes, EVENT_COUNT);
+}
+
+static size_t sequence_count(void)
+{
+    return header(paper.bytes, SEQUENCE_COUNT);
+}
+
+static const uint8_t *event_at(size_t i)
+{
+    return paper.bytes + PAPER_HEADER + EVENT * i;
+}
+
+static const uint8_t *sequence_at(size_t i)
+{
+    return paper.bytes + header(paper.bytes, SEQUENCE_START) + SEQUENCE * i;
 }
 
 /* ---- words of a line ---- */
@@ -306,8 +328,8 @@ static size_t number_named(const char *text)
     if (len == 0 || len > SEQUENCE)
         return 0;
     memcpy(sequence, text, len);
-    for (size_t i = 0; i < paper.sequences; i++)
-        if (memcmp(paper.sequence[i], sequence, SEQUENCE) == 0)
+    for (size_t i = 0; i < sequence_count(); i++)
+        if (memcmp(sequence_at(i), sequence, SEQUENCE) == 0)
             return i + 1;
     return 0;
 }
@@ -343,22 +365,34 @@ static void read_text_bytes(uint8_t *bytes, const char *text)
     memcpy(bytes, text, len);
 }
 
+/* Takes what the writer returned: the new writer, or a refusal, which is told in words. */
+static void take_writer(uint64_t n, const char *out_of_order, const char *full)
+{
+    const unsigned number = brinefeather_refused(n);
+
+    if (number == 0)
+        paper.writer = n;
+    else if (number == BRINEFEATHER_ORDER)
+        complain("%s", out_of_order);
+    else if (number == BRINEFEATHER_FULL)
+        complain("%s", full);
+    else
+        complain("the paper does not take it (%s)", brinefeather_refusal_name(number));
+}
+
 static void read_sequence(void)
 {
     struct word w = read_word("");
     uint8_t bytes[SEQUENCE] = {0};
 
-    if (paper.events > 0)
-        complain("sequences stand before the events");
-    if (paper.sequences == MOST_SEQUENCES)
-        complain("a paper has at most %d sequences", MOST_SEQUENCES);
     if (!w.quoted && strncmp(w.text, "0x", 2) == 0)
         read_hex_bytes(bytes, w.text + 2);
     else
         read_text_bytes(bytes, w.text);
     expect_end();
     if (!line.bad)
-        memcpy(paper.sequence[paper.sequences++], bytes, SEQUENCE);
+        take_writer(brinefeather_add_sequence(paper.writer, paper.bytes, sizeof paper.bytes, bytes, SEQUENCE),
+                    "sequences stand before the events", "a paper has at most 64 sequences");
 }
 
 /* ---- an event from its line ---- */
@@ -381,8 +415,8 @@ static uint32_t read_sequence_name(void)
         value = (int64_t)number_named(w.text);
         if (value == 0)
             complain("no sequence is named '%s'", w.text);
-    } else if (value < 0 || value > (int64_t)paper.sequences)
-        complain("there is no sequence %s: the paper has %zu", w.text, paper.sequences);
+    } else if (value < 0 || value > (int64_t)sequence_count())
+        complain("there is no sequence %s: the paper has %zu", w.text, sequence_count());
     return (uint32_t)value;
 }
 
@@ -499,13 +533,23 @@ static void read_deed(uint8_t *event, unsigned *given)
         read_call_number(event);
 }
 
+/* For a line that is wrong an empty event is added, so that the lines after it are judged as they would be. */
+static void add_event(uint8_t *event)
+{
+    if (line.bad)
+        memset(event, 0, EVENT);
+    take_writer(brinefeather_add_event(paper.writer, paper.bytes, sizeof paper.bytes, event, EVENT),
+                "it names a sequence that the paper does not have", "a paper has at most 1000 events");
+    paper.place++;
+}
+
 static void read_event(void)
 {
     uint8_t event[EVENT] = {0};
     unsigned given = 0;
     int named;
 
-    read_place("event", &paper.events);
+    read_place("event", &paper.place);
     named = next_is("process");
     if (named) {
         put(event, caller_field, read_number("the process", 0, 65535));
@@ -517,10 +561,7 @@ static void read_event(void)
         complain("it is not said which process, as in process 2: take");
     while (!line.bad && !at_end())
         read_register(event, &given);
-    if (paper.events == MOST)
-        complain("a paper has at most %d events", MOST);
-    else
-        memcpy(paper.event[paper.events++], event, EVENT);
+    add_event(event);
 }
 
 static void read_paper_line(void)
@@ -563,6 +604,12 @@ static void read_result(uint8_t *answer, unsigned *given)
     *given |= 1u << r;
 }
 
+/* Those that are kept for later have none. */
+static int has_refusal_name(unsigned number)
+{
+    return strcmp(brinefeather_refusal_name(number), brinefeather_refusal_name(0)) != 0;
+}
+
 static uint8_t read_refusal(void)
 {
     const char *before = line.at;
@@ -570,7 +617,7 @@ static uint8_t read_refusal(void)
     int64_t value;
 
     for (uint8_t i = 1; i <= BRINEFEATHER_REFUSALS; i++)
-        if (is(&w, brinefeather_refusal_name(i)))
+        if (has_refusal_name(i) && is(&w, brinefeather_refusal_name(i)))
             return i;
     line.at = before;
     if (w.text[0] != '\0' && !number_of(w.text, &value))
@@ -672,17 +719,6 @@ static int read_text(const char *name, void (*read_line)(void))
 
 /* ---- files ---- */
 
-static size_t make_paper(uint8_t *file)
-{
-    const size_t start = PAPER_HEADER + EVENT * paper.events, end = start + SEQUENCE * paper.sequences;
-    const size_t numbers[] = {1, paper.events, PAPER_HEADER, paper.sequences, start, end};
-
-    put_header(file, numbers, COUNT(numbers));
-    memcpy(file + PAPER_HEADER, paper.event, EVENT * paper.events);
-    memcpy(file + start, paper.sequence, SEQUENCE * paper.sequences);
-    return end;
-}
-
 static size_t make_sheet(uint8_t *file)
 {
     const size_t numbers[] = {1, sheet.answers, SHEET_HEADER};
@@ -727,75 +763,32 @@ static uint64_t refusal_at(unsigned number, size_t offset)
     return number + ((uint64_t)offset << 16);
 }
 
-/* The fields of a paper that have a rule, in file order: the header's numbers, then the events' sequence numbers. */
-static size_t paper_field(size_t i)
-{
-    return i < PAPER_NUMBERS ? 2 * i : PAPER_HEADER + EVENT * (i - PAPER_NUMBERS) + registers[S].at;
-}
-
-/* Does the field keep its rule? All ahead of it must do so. */
-static int paper_field_keeps(const uint8_t *file, size_t len, size_t i)
-{
-    const size_t found = get(file, (struct field){"field", paper_field(i), 2}), sequences = header(file, 3);
-    const size_t start = PAPER_HEADER + EVENT * header(file, 1), end = start + SEQUENCE * sequences;
-
-    switch (i) {
-    case 0: return found == 1;
-    case 1: return found <= MOST;
-    case 2: return found == PAPER_HEADER;
-    case 3: return found <= MOST_SEQUENCES;
-    case 4: return found == start;
-    case 5: return found == end && len == end;
-    default: return found <= sequences;
-    }
-}
-
-static int sheet_field_keeps(const uint8_t *file, size_t len, size_t i)
-{
-    const size_t found = header(file, i);
-
-    switch (i) {
-    case 0: return found == 1;
-    case 1: return found <= MOST && len == SHEET_HEADER + ANSWER * found;
-    default: return found == SHEET_HEADER;
-    }
-}
-
-/* 0 for a file that is laid out right, else its refusal, as brinefeather_mark returns it. */
+/* 0 for a paper, blank or not, else its refusal. */
 static uint64_t paper_refusal(const uint8_t *file, size_t len)
 {
-    size_t i = 0;
+    const uint64_t n = brinefeather_mark(file, len, NULL, 0);
 
-    if (len < PAPER_HEADER)
-        return refusal_at(BRINEFEATHER_BADPAPER, len);
-    while (i < PAPER_NUMBERS + header(file, 1) && paper_field_keeps(file, len, i))
-        i++;
-    return i < PAPER_NUMBERS + header(file, 1) ? refusal_at(BRINEFEATHER_BADPAPER, paper_field(i)) : 0;
+    return brinefeather_refused(n) == BRINEFEATHER_BADPAPER ? n : 0;
 }
 
+/* 0 for a sheet, else its refusal: that beside a paper which is good. */
 static uint64_t sheet_refusal(const uint8_t *file, size_t len)
 {
-    size_t i = 0;
+    static const uint8_t good[PAPER_HEADER + EVENT] = {0, 1, 0, 1, 0, 12, 0, 0, 0, 32, 0, 32, TICK};
+    const uint64_t n = brinefeather_mark(good, sizeof good, file, len);
 
-    if (len < SHEET_HEADER)
-        return refusal_at(BRINEFEATHER_BADSHEET, len);
-    while (i < SHEET_NUMBERS && sheet_field_keeps(file, len, i))
-        i++;
-    return i < SHEET_NUMBERS ? refusal_at(BRINEFEATHER_BADSHEET, 2 * i) : 0;
+    return brinefeather_refused(n) ? n : 0;
 }
 
-/* Takes the parts out of a paper that is laid out right. */
+/* Takes a paper, or a sheet, that is laid out right. */
 static void take_paper(const uint8_t *file)
 {
-    paper.events = header(file, 1);
-    paper.sequences = header(file, 3);
-    memcpy(paper.event, file + PAPER_HEADER, EVENT * paper.events);
-    memcpy(paper.sequence, file + PAPER_HEADER + EVENT * paper.events, SEQUENCE * paper.sequences);
+    memcpy(paper.bytes, file, header(file, PAPER_LENGTH));
 }
 
 static void take_sheet(const uint8_t *file)
 {
-    sheet.answers = header(file, 1);
+    sheet.answers = header(file, ANSWER_COUNT);
     memcpy(sheet.answer, file + SHEET_HEADER, ANSWER * sheet.answers);
 }
 
@@ -867,7 +860,7 @@ static int has_name(uint32_t number)
 
     if (number == 0)
         return 0;
-    memcpy(text, paper.sequence[number - 1], text_length(paper.sequence[number - 1]));
+    memcpy(text, sequence_at(number - 1), text_length(sequence_at(number - 1)));
     return number_named(text) == number;
 }
 
@@ -891,7 +884,7 @@ static void show_registers(struct made *m, const uint8_t *event)
             continue;
         if (r == S && has_name(value)) {
             append(m, " S=");
-            show_text(m, paper.sequence[value - 1]);
+            show_text(m, sequence_at(value - 1));
         } else
             show_number(m, registers[r].name, value);
     }
@@ -903,7 +896,7 @@ static int has_words(const uint8_t *event)
     const uint32_t number = get(event, registers[S]);
 
     return event[0] == CALL && (event[call_field.at] == LOCK || event[call_field.at] == UNLOCK) && has_name(number)
-        && get(event, registers[D3]) == text_length(paper.sequence[number - 1]) && get(event, registers[D2]) <= 3
+        && get(event, registers[D3]) == text_length(sequence_at(number - 1)) && get(event, registers[D2]) <= 3
         && get(event, registers[D0]) == 0 && get(event, registers[D1]) == 0 && get(event, registers[A0]) == 0;
 }
 
@@ -914,7 +907,7 @@ static void show_words(struct made *m, const uint8_t *event)
     if (event[call_field.at] == LOCK || sharing != SHARED)
         append(m, sharing & UNSHARED ? " unshared" : " shared");
     append(m, sharing & CONDITIONAL ? " conditional " : " ");
-    show_text(m, paper.sequence[get(event, registers[S]) - 1]);
+    show_text(m, sequence_at(get(event, registers[S]) - 1));
 }
 
 static void show_call(struct made *m, uint8_t call)
@@ -997,7 +990,7 @@ static void show_answer(struct made *m, const uint8_t *answer)
         return;
     }
     append(m, "%s", answer_kinds[kind]);
-    if (kind == REFUSED && number > 0 && number <= BRINEFEATHER_REFUSALS)
+    if (kind == REFUSED && has_refusal_name(number))
         append(m, " %s", brinefeather_refusal_name(number));
     else if (kind == REFUSED)
         append(m, " %u", number);
@@ -1016,10 +1009,10 @@ static void print_line(void (*show)(struct made *, const uint8_t *), const uint8
 
 static void print_paper(void)
 {
-    for (size_t i = 0; i < paper.sequences; i++)
-        print_line(show_sequence, paper.sequence[i]);
-    for (size_t i = 0; i < paper.events; i++)
-        print_line(show_event, paper.event[i]);
+    for (size_t i = 0; i < sequence_count(); i++)
+        print_line(show_sequence, sequence_at(i));
+    for (size_t i = 0; i < event_count(); i++)
+        print_line(show_event, event_at(i));
 }
 
 static void print_sheet(void)
@@ -1030,11 +1023,13 @@ static void print_sheet(void)
 
 static int use_text(const char *text, const char *file, int is_paper)
 {
-    static uint8_t bytes[LONGEST];
+    static uint8_t bytes[BRINEFEATHER_LONGEST_SHEET];
 
     if (!read_text(text, is_paper ? read_paper_line : read_answer))
         return 0;
-    return write_file(file, bytes, is_paper ? make_paper(bytes) : make_sheet(bytes));
+    if (is_paper)
+        return write_file(file, paper.bytes, header(paper.bytes, PAPER_LENGTH));
+    return write_file(file, bytes, make_sheet(bytes));
 }
 
 static int show_file(const char *name)
@@ -1064,10 +1059,10 @@ static int event_width(void)
 {
     size_t width = strlen("(no event)");
 
-    for (size_t i = 0; i < paper.events; i++) {
+    for (size_t i = 0; i < event_count(); i++) {
         struct made m = {{0}, 0};
 
-        show_event(&m, paper.event[i]);
+        show_event(&m, event_at(i));
         if (m.len > width)
             width = m.len;
     }
@@ -1078,11 +1073,11 @@ static void print_side_by_side(void)
 {
     const int width = event_width();
 
-    for (size_t i = 0; i < paper.events || i < sheet.answers; i++) {
+    for (size_t i = 0; i < event_count() || i < sheet.answers; i++) {
         struct made event = {{0}, 0}, answer = {{0}, 0};
 
-        if (i < paper.events)
-            show_event(&event, paper.event[i]);
+        if (i < event_count())
+            show_event(&event, event_at(i));
         if (i < sheet.answers)
             show_answer(&answer, sheet.answer[i]);
         printf("%3zu  %-*s  %s\n", i + 1, width, event.len ? event.text : "(no event)",
@@ -1137,7 +1132,7 @@ static uint64_t file_refusal(const uint8_t *file, size_t len, unsigned number)
 
     if (refusal || number == BRINEFEATHER_BADSHEET)
         return refusal;
-    return header(file, 1) == 0 ? BRINEFEATHER_BLANK : 0;
+    return header(file, EVENT_COUNT) == 0 ? BRINEFEATHER_BLANK : 0;
 }
 
 /* A refusal that is not the file's would get false words. */

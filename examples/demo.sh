@@ -33,13 +33,21 @@ build() {
     echo "Proved."
 }
 
-transcribe() {
-    if [ ! -e "$work/transcribe" ]; then
-        need $own_cc $own_cc_packages
-        $own_cc $strict -o "$work/transcribe" "$root/desk/transcribe.c"
-    fi
-    "$work/transcribe" "$@"
+# Before the proofs, when there may be no archive yet, transcribe has the plain routines: so it only looks texts over.
+build_reader() {
+    need $own_cc $own_cc_packages
+    $own_cc $strict $stand_in -o "$work/reader" "$root/desk/transcribe.c" "$root/desk/plain.c"
+    transcriber="$work/reader"
 }
+
+build_transcribe() {
+    need $cc $cc_packages
+    (cd "$root" && { archive_is_new || prove staticlib brinefeather; })
+    $cc $strict $link -o "$work/transcribe" "$root/desk/transcribe.c" "$root/$archive"
+    transcriber="$run $work/transcribe"
+}
+
+transcribe() { $transcriber "$@"; }
 
 # take_in paper|sheet FILE COPY: a copy of the file, in bytes.
 take_in() {
@@ -49,7 +57,6 @@ take_in() {
     esac
 }
 
-# A slip in a text is told before the proofs begin.
 take_all_in() {
     local number
     take_in paper "$PAPER" paper
@@ -116,8 +123,11 @@ if [ -z "$PAPER" ]; then
     build
     samples
 else
-    take_all_in
+    build_reader
+    take_all_in # a slip in a text is told before the proofs begin
     build
+    build_transcribe
+    take_all_in
     mark_all
     if [ ${#sheets[@]} = 0 ] || [ "$KEY" ]; then write_key; fi
 fi

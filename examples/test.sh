@@ -11,7 +11,7 @@ cd "$(dirname "$0")/.."
 work=$(mktemp -d)
 trap 'rm -rf "$work"' EXIT
 examples/make.sh "$work"
-$own_cc $strict -o "$work/transcribe" desk/transcribe.c
+$cc $strict $link -o "$work/transcribe" desk/transcribe.c $archive
 lines=0 papers=0
 
 fail() { echo "FAIL $*"; exit 1; }
@@ -27,8 +27,8 @@ for folder in examples/*/; do
     done
     { grep '^sequence ' "${folder}paper.txt" || true; events_of "$folder"; } > "$work/events.txt"
     answers_of "$folder" > "$work/answers.txt"
-    "$work/transcribe" paper "$work/events.txt" "$work/paper"
-    "$work/transcribe" sheet "$work/answers.txt" "$work/sheet"
+    $run "$work/transcribe" paper "$work/events.txt" "$work/paper"
+    $run "$work/transcribe" sheet "$work/answers.txt" "$work/sheet"
     cmp -s "$work/paper" "${folder}paper" || fail "examples/$name/README.md: its events are not those of the paper"
     cmp -s "$work/sheet" "${folder}key" || fail "examples/$name/README.md: its answers are not those of the key"
     mark=$(tail -n 1 "${folder}marks")
