@@ -1,5 +1,5 @@
 /*
- * Nanoseconds an event of the archive's two routines and of the plain ones, timed in turns; the stack that each needs.
+ * Nanoseconds an event of the archive's mark and key and of the plain ones, timed in turns; the stack that each needs.
  * Usage: bench [--quick] [--check]. Prints lines for bench.sh and plot.awk:
  *
  *   cost KIND EVENTS ROUTINE OURS PLAIN RATIO     nanoseconds an event

@@ -110,8 +110,10 @@ uint64_t brinefeather_key(const uint8_t *paper, size_t paper_len, uint8_t *key, 
  * 65,536 + its sequences. The first call has the writer 0, and does not look at what the buffer holds. (To go on with a
  * paper that lies there already, the writer is its events x 65,536 + its sequences: the length is not read.)
  *
- * A refused call writes no byte and returns the number of the first refusal that applies, never with an offset. Keep the
- * old writer then: with it you may go on.
+ * A refused call writes no byte and returns the number of the first refusal that applies, never with an offset. Test for
+ * it after each call, and keep the old writer then: with it you may go on, after badpaper once the buffer is as it was.
+ * A refusal that is handed on as the writer is told as badpaper, but not if the paper has just that many sequences, 18
+ * or 26, and no event: then the call goes on, and the item that was refused is missing.
  *
  *   badpaper  the counts of the writer are not both 0, and the buffer does not begin with a paper of these counts that
  *             keeps all rules above; so it was changed since the last call, or is another
@@ -137,7 +139,7 @@ static inline size_t brinefeather_key_length(size_t events)
 
 /*
  * For what any routine returned: the refusal number alone, without its offset, or 0 when it was not refused. The two
- * never meet. A refusal is a number below 28, but never 22, plus 65,536 times its offset, which is at most 20,010: in
+ * never meet. A refusal is a number below 28, but of these routines never 22, plus 65,536 times its offset, which is at most 20,010: in
  * all it is less than 2^32. What is not refused is
  *
  *   a key's length   22, or from 28 to 65,535

@@ -1,8 +1,11 @@
--- The desk's numbers, written out. Assumes nothing.
+-- The desk's numbers, and the items that it hands over, written out. Assumes nothing.
 use Prim.Native.Nat.{ℕ}
 use Prim.Native.String.{String}
 use mathlib.Core.Path.{_≡_}
-use mathlib.Core.List.{List, [], _∷_, map}
+use mathlib.Core.List.{List, [], _∷_, _++_, map}
+use lib.ListN.{replicate}
+use Rattle.papers.specs.Bytes.{run}
+use Rattle.papers.specs.Entries.{entryAt}
 use Rattle.papers.specs.declared.layout.Refusal.the-variants.{Badpaper, Blank, Badsheet, Noroom}
 use Rattle.marker.specs.declared.keys.Keyed.the-variants.{Written, Refused as Unwritten}
 use Rattle.marker.specs.declared.marks.Marked.the-variants.{Mark, Refused}
@@ -70,3 +73,15 @@ numbers =
 
 abbrev pub NumberCases : Type 0
 NumberCases = map (λ n. n .comes) numbers ≡ map (λ n. n .should) numbers
+
+-- ---- items: "bytes past its end as 0", and bytes over are not read
+
+pub record ItemCases : Type 0 where
+  pub short-event : entryAt (2 ∷ []) 0 ≡ record { kind = 2; call = 0; caller = 0; d0 = 0; d1 = 0; d2 = 0; d3 = 0; a0 = 0; sequence = 0 }
+  pub no-event : entryAt [] 0 ≡ record { kind = 0; call = 0; caller = 0; d0 = 0; d1 = 0; d2 = 0; d3 = 0; a0 = 0; sequence = 0 }
+  -- a byte short, of the sequence's number the upper byte alone; and three bytes over
+  pub half-name : entryAt (replicate 18 0 ++ 1 ∷ []) 0 .sequence ≡ 256
+  pub long-event : entryAt (replicate 18 0 ++ 0 ∷ 1 ∷ 9 ∷ 9 ∷ 9 ∷ []) 0 ≡ record { kind = 0; call = 0; caller = 0; d0 = 0; d1 = 0; d2 = 0; d3 = 0; a0 = 0; sequence = 1 }
+  pub short-sequence : run (0x54 ∷ 0x41 ∷ 0x42 ∷ 0x4C ∷ 0x45 ∷ []) 0 16 ≡ 0x54 ∷ 0x41 ∷ 0x42 ∷ 0x4C ∷ 0x45 ∷ replicate 11 0
+  pub no-sequence : run [] 0 16 ≡ replicate 16 0
+  pub long-sequence : run (replicate 17 5) 0 16 ≡ replicate 16 5

@@ -50,7 +50,7 @@ addedNumber (added.Refused r) = writer.numberOf r
 
 -- ---- a refusal is told by its size, as in `brinefeather_refused` of desk/brinefeather.h
 
--- a key of one event has 22 bytes, and a longer one at least 38; no refusal has the number 22 or one above 27
+-- a key of one event has 22 bytes, and a longer one at least 38; no routine for C refuses by 22, or by a number above 27
 abbrev pub isLength : ℕ → Bool
 isLength n = eqb n 22 || between 28 65535 n
 

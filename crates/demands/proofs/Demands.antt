@@ -48,6 +48,7 @@ use Rattle.marker.proofs.mark.Met as mark-code
 use Rattle.marker.proofs.perfect.Met as perfect-code
 use Rattle.writer.proofs.add_sequence.Met as add-sequence-code
 use Rattle.writer.proofs.add_event.Met as add-event-code
+use Rattle.writer.proofs.number_of.Met as number-of-code
 use Rattle.brinefeather.proofs.brinefeather_add_sequence.Met as brinefeather-add-sequence-code
 use Rattle.brinefeather.proofs.brinefeather_add_event.Met as brinefeather-add-event-code
 use Rattle.brinefeather.proofs.brinefeather_key.Met as brinefeather-key-code
@@ -68,6 +69,7 @@ code =
       brinefeather-mark = brinefeather-mark-code.met;
       add-sequence = add-sequence-code.met;
       add-event = add-event-code.met;
+      number-of = number-of-code.met;
       brinefeather-add-sequence = brinefeather-add-sequence-code.met;
       brinefeather-add-event = brinefeather-add-event-code.met;
     }

@@ -40,6 +40,7 @@ use Rattle.marker.proofs.mark.Reads as mark-promise
 use Rattle.marker.proofs.perfect.Statement as perfect-theorem
 use Rattle.writer.proofs.add_sequence.Statement as add-sequence-theorem
 use Rattle.writer.proofs.add_event.Statement as add-event-theorem
+use Rattle.writer.proofs.number_of.Statement as number-of-theorem
 use Rattle.brinefeather.proofs.brinefeather_add_sequence.Statement as brinefeather-add-sequence-theorem
 use Rattle.brinefeather.proofs.brinefeather_add_event.Statement as brinefeather-add-event-theorem
 use Rattle.brinefeather.proofs.brinefeather_key.Statement as brinefeather-key-theorem
@@ -60,6 +61,7 @@ pub record Code (M : Type 1) : Type 2 where
   pub brinefeather-mark : brinefeather-mark-theorem.statement M
   pub add-sequence : add-sequence-theorem.statement M
   pub add-event : add-event-theorem.statement M
+  pub number-of : number-of-theorem.statement M
   pub brinefeather-add-sequence : brinefeather-add-sequence-theorem.statement M
   pub brinefeather-add-event : brinefeather-add-event-theorem.statement M
 

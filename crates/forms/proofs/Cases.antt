@@ -18,7 +18,7 @@ use Rattle.forms.proofs.Promises.{on-papers}
 
 pub form-cases : FormCases
 unfolding number16 number32 field headerFits paperFits entryAt entryBytes paperHeader paperBytes hasCounts begins isBroken laidOut added
-form-cases = record { entry = refl; empty = refl; all = refl; short = refl }
+form-cases = record { entry = refl; empty = refl; longest = refl; all = refl; short = refl }
 
 readme-holds : Each comes should readme
 unfolding number16 number32 field headerFits paperFits entryAt entryBytes paperHeader paperBytes hasCounts begins isBroken laidOut added readme
@@ -26,7 +26,7 @@ readme-holds = (refl, (refl, (refl, (refl, (refl, (refl, (refl, tt)))))))
 
 calls-hold : Each comes should calls
 unfolding number16 number32 field headerFits paperFits entryAt entryBytes paperHeader paperBytes hasCounts begins isBroken laidOut added calls
-calls-hold = (refl, (refl, (refl, (refl, (refl, (refl, (refl, (refl, (refl, (refl, (refl, (refl, (refl, (refl, (refl, (refl, (refl, (refl, (refl, (refl, (refl, (refl, (refl, (refl, (refl, (refl, (refl, (refl, (refl, (refl, (refl, (refl, (refl, (refl, (refl, (refl, (refl, (refl, tt))))))))))))))))))))))))))))))))))))))
+calls-hold = (refl, (refl, (refl, (refl, (refl, (refl, (refl, (refl, (refl, (refl, (refl, (refl, (refl, (refl, (refl, (refl, (refl, (refl, (refl, (refl, (refl, (refl, (refl, (refl, (refl, (refl, (refl, (refl, (refl, (refl, (refl, (refl, (refl, (refl, (refl, (refl, (refl, (refl, (refl, (refl, (refl, (refl, tt))))))))))))))))))))))))))))))))))))))))))
 
 pub call-cases : CallCases
 call-cases = map-append comes readme calls ∙ rw (each-same comes should readme readme-holds, each-same comes should calls calls-hold) (sym (map-append should readme calls))

@@ -11,7 +11,7 @@ use Rattle.forms.specs.declared.items.Refusal.{Refusal}
 use Rattle.forms.specs.declared.items.Refusal.the-variants.{Badpaper, Order, Full, Noroom}
 use Rattle.forms.specs.declared.items.Added.{Added}
 use Rattle.forms.specs.declared.items.Added.the-variants.{Taken, Refused}
-use Rattle.forms.specs.Form.{entryBytes, paperBytes}
+use Rattle.forms.specs.Form.{entryBytes, paperHeader, paperBytes}
 use Rattle.forms.specs.Adding.{Item, sequence, event, counts, newWriter, added, addedAll}
 
 -- ---- a paper with a different byte in each place
@@ -36,6 +36,8 @@ pub record FormCases : Type 0 where
       ≡ 0x11 ∷ 0x12 ∷ 0x13 ∷ 0x14 ∷ 0x15 ∷ 0x16 ∷ 0x17 ∷ 0x18 ∷ 0x19 ∷ 0x1A ∷ 0x1B ∷ 0x1C ∷ 0x1D ∷ 0x1E ∷ 0x1F ∷ 0x20 ∷ 0x21 ∷ 0x22 ∷ 0x23 ∷ 0x24 ∷ []
   -- no events and no sequences: the header alone
   pub empty : paperBytes [] [] ≡ 0 ∷ 1 ∷ 0 ∷ 0 ∷ 0 ∷ 12 ∷ 0 ∷ 0 ∷ 0 ∷ 12 ∷ 0 ∷ 12 ∷ []
+  -- both bytes of each number: the header of the longest paper
+  pub longest : paperHeader 1000 64 ≡ 0 ∷ 1 ∷ 3 ∷ 232 ∷ 0 ∷ 12 ∷ 0 ∷ 64 ∷ 78 ∷ 44 ∷ 82 ∷ 44 ∷ []
   -- "the sequences and then the events .. a complete paper", and not a byte behind it
   pub all : addedAll (Taken newWriter, replicate 86 0x77) twoItems ≡ (Taken (counts 2 2), twoEvents ++ 0x77 ∷ 0x77 ∷ [])
   -- up to the first refusal: a byte short for the last of them
@@ -153,6 +155,10 @@ calls =
     ∷ refused "a paper with an event less" (counts 2 0) (oneTick ++ replicate 40 0) (event tick) Badpaper
     ∷ refused "a paper with a sequence more" (counts 2 1) twoEvents (event tick) Badpaper
     ∷ refused "four events for five sequences, which are as long" (counts 0 5) fourTicks (event tick) Badpaper
+    ∷ refused "a paper with a sequence less" (counts 2 3) (twoEvents ++ replicate 40 7) (event tick) Badpaper
+    ∷ refused "65 sequences, which no paper has" (counts 0 65) (0 ∷ 1 ∷ 0 ∷ 0 ∷ 0 ∷ 12 ∷ 0 ∷ 65 ∷ 0 ∷ 12 ∷ 4 ∷ 28 ∷ replicate 1100 5) (event tick) Badpaper
+    ∷ refused "an event offset changed" (counts 1 0) (0 ∷ 1 ∷ 0 ∷ 1 ∷ 0 ∷ 13 ∷ 0 ∷ 0 ∷ 0 ∷ 32 ∷ 0 ∷ 32 ∷ 2 ∷ replicate 60 0) (event tick) Badpaper
+    ∷ refused "a sequence offset changed" (counts 1 0) (0 ∷ 1 ∷ 0 ∷ 1 ∷ 0 ∷ 12 ∷ 0 ∷ 0 ∷ 0 ∷ 33 ∷ 0 ∷ 32 ∷ 2 ∷ replicate 60 0) (event tick) Badpaper
     ∷ refused "a version changed" (counts 1 0) (0 ∷ 2 ∷ 0 ∷ 1 ∷ 0 ∷ 12 ∷ 0 ∷ 0 ∷ 0 ∷ 32 ∷ 0 ∷ 32 ∷ 2 ∷ replicate 60 0) (event tick) Badpaper
     ∷ refused "an event's sequence number changed" (counts 1 0) (wrongName ++ replicate 20 7) (event tick) Badpaper
     ∷ taken "an event's other bytes changed" (counts 1 0) (anyEvent ++ replicate 20 7) (event tick) (counts 2 0)

@@ -6,7 +6,7 @@ use papers::layout;
 use papers::layout::Read;
 use papers::paper;
 ghost use mathlib.Core.Path.{_≡_};
-ghost use Rattle.forms.specs.Adding.{numberOf, event, sequence, newWriter, begins, isBroken, added};
+ghost use Rattle.forms.specs.Adding.{numberOf, event, sequence, begins, isBroken, added};
 ghost use Rattle.writer.specs.Reading.{finds as Reading·finds};
 
 pub fn number_of(r: Refusal) -> u8
@@ -17,16 +17,6 @@ pub fn number_of(r: Refusal) -> u8
         Refusal::Order => 26,
         Refusal::Full => 20,
         Refusal::Noroom => 18,
-    }
-}
-
-// A writer before its first call.
-pub fn new_writer() -> Writer
-    ensures { λ r. ⌜ r ≡ newWriter ⌝ }
-{
-    Writer {
-        events: 0,
-        sequences: 0,
     }
 }
 

@@ -5,5 +5,4 @@ mod records;
 
 pub use crate::adding::add_event;
 pub use crate::adding::add_sequence;
-pub use crate::adding::new_writer;
 pub use crate::adding::number_of;
