@@ -112,8 +112,8 @@ uint64_t brinefeather_key(const uint8_t *paper, size_t paper_len, uint8_t *key, 
  *
  * A refused call writes no byte and returns the number of the first refusal that applies, never with an offset. Test for
  * it after each call, and keep the old writer then: with it you may go on, after badpaper once the buffer is as it was.
- * A refusal that is handed on as the writer is told as badpaper, but not if the paper has just that many sequences, 18
- * or 26, and no event: then the call goes on, and the item that was refused is missing.
+ * A refusal that is handed on as the writer is told as badpaper, but not if the paper has no event and just that many
+ * sequences (15, 18 or 26): then the call goes on, and the item that was refused is missing.
  *
  *   badpaper  the counts of the writer are not both 0, and the buffer does not begin with a paper of these counts that
  *             keeps all rules above; so it was changed since the last call, or is another
