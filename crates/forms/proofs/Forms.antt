@@ -3,7 +3,7 @@ use Prim.Native.Nat.{ℕ, zero, suc, _+_, _*_, _≤_, _<_}
 use native.Mathlib.Nat.{div-add-mod'}
 use native.Mathlib.Omega.{arith}
 use mathlib.Core.Path.{_≡_, refl, sym, ap, _∙_}
-use mathlib.Core.Bool.{Bool, true, _&&_}
+use mathlib.Core.Bool.{true}
 use mathlib.Core.List.{List, [], _++_, map, append-assoc, append-nil}
 use lib.ListN.{length, getD, replicate, length-append}
 use lib.Dec.{leb}
@@ -17,7 +17,7 @@ use Rattle.papers.specs.Entries.{entryAt, entriesFrom, entriesOf, sequencesOf}
 use Rattle.papers.specs.Events.{sequenceOf, eventAt, eventsFrom}
 use Rattle.papers.specs.declared.entries.Entry.{Entry}
 use Rattle.papers.proofs.Runs.{sixteens-count, sixteens-back}
-use Rattle.papers.proofs.Files.{paper-counts, same-refused}
+use Rattle.papers.proofs.Files.{and-left, and-right, paper-counts, same-refused}
 use Rattle.forms.specs.Form.{entryBytes, lengthOf, paperHeader, paperBytes, nth, eventOf}
 use Rattle.forms.specs.Promises.{Holds, ReadsBack, FormsDiffer, Bytes, OneForm}
 use Rattle.forms.proofs.Laws.{entries-count, header-long, entries-long, paper-long, run-both, run-take, high, low, entries-run, sixteens-run, entries-back, names, names-all}
@@ -139,7 +139,7 @@ forms-differ es es′ ss ss′ h h′ e =
 -- ---- a paper has one form
 
 -- the header's numbers
-pub record Header (p : List ℕ) : Type 0 where
+record Header (p : List ℕ) : Type 0 where
   pub version : number16 p 0 ≡ 1
   pub events-at : number16 p 4 ≡ 12
   pub sequences-at : number16 p 8 ≡ sequencesAt p
@@ -152,13 +152,7 @@ only p at n h =
     let s = and-split (leb n (number16 p at)) (leb (number16 p at) n) h in
     omega (arith, leb-true n (number16 p at) (s .0), leb-true (number16 p at) n (s .1))
 
-and-left : (a b : Bool) → (a && b) ≡ true → a ≡ true
-and-left a b h = and-split a b h .0
-
-and-right : (a b : Bool) → (a && b) ≡ true → b ≡ true
-and-right a b h = and-split a b h .1
-
-pub header-has : (p : List ℕ) → paperFits p ≡ true → Header p
+header-has : (p : List ℕ) → paperFits p ≡ true → Header p
 unfolding paperFits headerFits
 header-has p h = search (only, eqb-true, and-left, and-right) depth 8
 

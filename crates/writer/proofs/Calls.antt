@@ -69,7 +69,7 @@ module _ (w : Writer) (b : List ℕ) where
 -- ---- what is put together is the paper
 
 module _ (o : List ℕ) (b : Bytes o) where
-  pub event-laid : (n m : ℕ) (e : Entry) → 12 + 20 * n + 16 * m ≤ length o
+  event-laid : (n m : ℕ) (e : Entry) → 12 + 20 * n + 16 * m ≤ length o
       → paperBytes (entriesFrom o 12 n ++ e ∷ []) (sixteensFrom o (12 + 20 * n) m)
       ≡ paperHeader (n + 1) m ++ take (20 * n) (drop 12 o) ++ entryBytes e ++ take (16 * m) (drop (12 + 20 * n) o)
   unfolding paperBytes
@@ -88,7 +88,7 @@ module _ (o : List ℕ) (b : Bytes o) where
       )
       (simp append-assoc)
 
-pub sequence-laid : (o s : List ℕ) (m : ℕ) → 12 + 16 * m ≤ length o → paperBytes [] (sixteensFrom o 12 m ++ s ∷ []) ≡ paperHeader 0 (m + 1) ++ take (16 * m) (drop 12 o) ++ s
+sequence-laid : (o s : List ℕ) (m : ℕ) → 12 + 16 * m ≤ length o → paperBytes [] (sixteensFrom o 12 m ++ s ∷ []) ≡ paperHeader 0 (m + 1) ++ take (16 * m) (drop 12 o) ++ s
 unfolding paperBytes
 sequence-laid o s m h =
     rw (length-append, sixteens-count o 12 m, joined-both, sixteens-run o 12 m, run-take o 12 (16 * m) h, append-nil s) (simp (append-assoc, append-nil))
@@ -96,11 +96,11 @@ sequence-laid o s m h =
 -- ---- the two ends of a call
 
 module _ (es : List Entry) (ss : List (List ℕ)) (b : List ℕ) (n : ℕ) (l : length (paperBytes es ss) ≡ n) where
-  pub laid-not : length b < n → laidOut es ss b ≡ (Refused Noroom, b)
+  laid-not : length b < n → laidOut es ss b ≡ (Refused Noroom, b)
   unfolding laidOut
   laid-not h = rw (l, lt-ltb (length b) n h)
 
-  pub laid-taken : (x : List ℕ) (w : Writer) → w ≡ record { events = length es; sequences = length ss } → paperBytes es ss ≡ x → n ≤ length b → laidOut es ss b ≡ (Taken w, x ++ drop n b)
+  laid-taken : (x : List ℕ) (w : Writer) → w ≡ record { events = length es; sequences = length ss } → paperBytes es ss ≡ x → n ≤ length b → laidOut es ss b ≡ (Taken w, x ++ drop n b)
   unfolding laidOut
   laid-taken x w f e h = rw (f, ← e, l, le-ltb (length b) n h)
 
