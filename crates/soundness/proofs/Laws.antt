@@ -14,7 +14,7 @@ use Rattle.locks.specs.Rows.{twin, apart}
 use Rattle.locks.specs.declared.rows.Row.{Row}
 use Rattle.locks.proofs.Tests.{off}
 use Rattle.locks.proofs.Lists.{any-end}
-use Rattle.locks.proofs.Fewer.{Fewer, nil, kept, gone, fewer-apart}
+use Rattle.locks.proofs.Fewer.{Fewer, fewer-apart, fewer-take}
 use Rattle.locks.proofs.Loops.{Walk, in-list, padded-more}
 use Rattle.rules.specs.State.{pids}
 use Rattle.rules.specs.Sound.{ascend, pidsFit, addressed}
@@ -111,12 +111,6 @@ apart-end : (rows : List Row) (q : Row) → apart (rows ++ q ∷ []) ≡ (apart 
 unfolding apart
 apart-end [] q = refl
 apart-end (r ∷ rows) q = rw (any-end (λ x. twin x r) rows q, apart-end rows q) (regroup (any (λ x. twin x r) rows) (twin q r) (apart rows) (any (twin q) rows))
-
-pub fewer-take : {A : Type 0} (i : ℕ) (xs : List A) → Fewer (take i xs) xs
-fewer-take zero [] = nil
-fewer-take zero (x ∷ xs) = gone (fewer-take zero xs)
-fewer-take (suc i) [] = nil
-fewer-take (suc i) (x ∷ xs) = kept (fewer-take i xs)
 
 module _ {rows : List Row} {cap used n i : ℕ} (w : Walk rows cap used n i) (d : Row) (l : i < n) where
   pub apart-more : apart (take i rows) ≡ true → any (twin (getD rows i d)) (take i rows) ≡ false → apart (take (i + 1) rows) ≡ true

@@ -14,10 +14,11 @@ use Rattle.locks.specs.Rows.{sameSequence, conflict, twin, owns, waits}
 use Rattle.locks.specs.declared.rows.Row.{Row}
 use Rattle.locks.proofs.Tests.{off, and-split}
 use Rattle.locks.proofs.Lists.{some-any, any-end, any-mono}
-use Rattle.soundness.specs.Waiting.{fitRow, Told, Note, blank, Noted, meeting}
-use Rattle.soundness.specs.declared.rows.Words.{Words}
+use Rattle.locks.specs.Words.{fitRow, Told, Note}
+use Rattle.soundness.specs.Waiting.{blank, Noted, meeting}
+use Rattle.locks.specs.declared.words.Words.{Words}
 use Rattle.locks.proofs.Loops.{agree-at}
-use Rattle.soundness.proofs.Words.{same, different, fit-parts}
+use Rattle.locks.proofs.Bytes.{same, different, fit-parts}
 
 -- ---- both rows are shared, or not
 

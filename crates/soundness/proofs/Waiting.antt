@@ -18,8 +18,9 @@ use Rattle.locks.proofs.Lists.{any-end, all-end, all-at}
 use Rattle.locks.proofs.Loops.{Walk, walk-start, walk-next, walk-end, in-list, done-length, padded-more, sifted, sifted-more, sifted-same, sifted-room}
 use Rattle.rules.specs.Sound.{lockFits, soundProcess}
 use Rattle.rules.specs.declared.state.Process.{Process}
-use Rattle.soundness.specs.Waiting.{fitRow, Told, blank, Noted, meeting, ownerOf, Waiting, soundWaiting}
-use Rattle.soundness.specs.declared.rows.Words.{Words}
+use Rattle.locks.specs.Words.{fitRow, Told}
+use Rattle.soundness.specs.Waiting.{blank, Noted, meeting, ownerOf, Waiting, soundWaiting}
+use Rattle.locks.specs.declared.words.Words.{Words}
 use Rattle.soundness.specs.declared.rows.Waiters.{Waiters}
 use Rattle.soundness.proofs.Laws.{apart-more, not-apart}
 use Rattle.soundness.proofs.Meeting.{firstOf, hasFirst, new-alone, new-holds}

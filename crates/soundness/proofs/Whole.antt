@@ -20,7 +20,8 @@ use Rattle.rules.specs.Sound.{zeroProcess, pidsFit, soundProcess, sound, soundM
 use Rattle.rules.specs.declared.state.Process.{Process}
 use Rattle.rules.specs.declared.state.State.{State}
 use Rattle.rules.proofs.Sleepers.{sound-owner}
-use Rattle.soundness.specs.Waiting.{fitRow, ownerOf}
+use Rattle.locks.specs.Words.{fitRow}
+use Rattle.soundness.specs.Waiting.{ownerOf}
 use Rattle.soundness.proofs.Loops.{left-none, Passing, first, pass, fail, passed}
 use Rattle.soundness.proofs.Laws.{take-pids}
 use Rattle.soundness.proofs.Owners.{owners-of-rows}

@@ -7,48 +7,15 @@ use lib.Dec.{eqb, ltb}
 use lib.ListN.{length, getD, take, drop}
 use Rattle.locks.specs.Lists.{any, all, between, isZero, member, sift}
 use Rattle.locks.specs.Rows.{twin, waits, apart}
+use Rattle.locks.specs.Words.{fitRow, Note}
 use Rattle.locks.specs.declared.rows.Row.{Row}
 use Rattle.rules.specs.State.{forLock}
 use Rattle.rules.specs.Calls.{inPriority}
 use Rattle.rules.specs.Sound.{sleepFits, wakeFits, quiet, trapsFit, reactionsFit}
 use Rattle.rules.specs.declared.state.Process.{Process}
-use Rattle.soundness.specs.declared.rows.Words.{Words}
 use Rattle.soundness.specs.declared.rows.Waiters.{Waiters}
 
--- ---- bytes as numbers
-
-abbrev pub isByte : ℕ → Bool
-isByte b = ltb b 256
-
--- the number with these digits, the lowest first
-abbrev pub value : List ℕ → ℕ
-value [] = 0
-value (b ∷ bytes) = b + 256 * value bytes
-
--- w has the sixteen bytes
-pub record Worded (bytes : List ℕ) (w : Words) : Type 0 where
-  pub long : length bytes ≡ 16
-  pub small : all isByte bytes ≡ true
-  pub first : w .low ≡ value (take 8 bytes)
-  pub last : w .high ≡ value (drop 8 bytes)
-
 -- ---- rows
-
--- what `soundRow` asks, the owner aside
-unfoldable pub fitRow : Row → Bool
-fitRow r = between 1 16 (r .len) && all isZero (drop (r .len) (r .bytes))
-
--- w has the bytes of r, which is such a row
-pub record Told (r : Row) (w : Words) : Type 0 where
-  pub fit : fitRow r ≡ true
-  pub words : Worded (r .bytes) w
-
--- r told by numbers
-pub record Note (r : Row) (low high len owner : ℕ) (shared : Bool) : Type 0 where
-  pub row : Told r (record { low = low; high = high })
-  pub long : len ≡ r .len
-  pub from : owner ≡ r .owner
-  pub kind : shared ≡ r .shared
 
 -- what a read past the array's end would give
 abbrev pub blank : Row

@@ -3,7 +3,7 @@ use borrow.Author.Needs.{needs}
 use Rattle.soundness.proofs.rows.fit_row.Statement.{statement}
 use Rattle.soundness.proofs.rows.fit_row.Tie as tie
 use borrow.Author.Tests.{le-leb, lt-leb}
-use Rattle.soundness.specs.Waiting.{fitRow}
+use Rattle.locks.specs.Words.{fitRow}
 
 returns : tie.Need-returns
 unfolding fitRow

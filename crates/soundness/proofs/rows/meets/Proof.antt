@@ -11,7 +11,8 @@ use borrow.Author.Tests.{eqb-true, eqb-false}
 use mathlib.Core.Bool.{false}
 use lib.ListN.{getD}
 use Rattle.locks.specs.declared.rows.Row.{Row}
-use Rattle.soundness.specs.Waiting.{Told, Noted}
+use Rattle.locks.specs.Words.{Told}
+use Rattle.soundness.specs.Waiting.{Noted}
 use Rattle.soundness.proofs.Meeting.{Against, against-none, against-all, against-twin, others, conflict-told, no-twin, no-conflict, one-not, other-not, both, against-waits, against-passes}
 
 abbrev Inv-loop : tie.InvT-loop

@@ -9,7 +9,7 @@ use mathlib.Core.Logic.{⊎-elim}
 use lib.ListN.{length-map}
 use borrow.Author.Tests.{not-true}
 use Rattle.locks.specs.Rows.{rowsOf}
-use Rattle.soundness.proofs.Words.{told, byte-at}
+use Rattle.locks.proofs.Bytes.{told, byte-at}
 use Rattle.soundness.proofs.Waiting.{Watched, watched-none, refused, not-fit, twin-found, new-first, met-twin, met-waits, met-holds, watched-waits, watched-holds, watched-all}
 
 abbrev Inv-loop : tie.InvT-loop
