@@ -6,9 +6,11 @@ use crate::reading::event;
 use crate::reading::first;
 use crate::reading::is_digit;
 use crate::reading::line_end;
-use model::advance;
+use model::answer_in;
+use model::begin;
 use model::fresh;
 use model::step;
+use model::turn;
 use rules::state::Answer;
 use rules::state::Event;
 use rules::state::State;
@@ -50,12 +52,12 @@ fn same(a: Answer, b: Answer) -> bool {
         && a.a0 == b.a0
 }
 
-// What `step` answers; it should be what `advance` does too, where the story has not changed the state by hand.
+// What `step` answers; it should be what `turn` does too, where the story has not changed the state by hand.
 fn played(s: State, e: Event, other: Answer, by_hand: bool) -> State {
     let r = step(s, e);
     tell_answer(r.answer);
     if !by_hand && !same(r.answer, other) {
-        io::write_all(1, b" and advance differs");
+        io::write_all(1, b" and turn differs");
     }
     r.state
 }
@@ -67,7 +69,9 @@ fn tell_field(n: u32) {
 
 fn play(text: &[u8]) {
     let mut s = fresh();
-    let mut t = fresh();
+    let mut m = [0u32; 451];
+    let mut t = [0u64; 132];
+    begin(&mut m);
     let mut by_hand = false;
     let mut at: usize = 0;
     while at < text.len() {
@@ -77,7 +81,9 @@ fn play(text: &[u8]) {
         io::write_all(1, line);
         if mark == 61 {
             s = fresh();
-            t = fresh();
+            m = [0u32; 451];
+            t = [0u64; 132];
+            begin(&mut m);
             by_hand = false;
         } else if mark == 33 {
             s = poke(s, line);
@@ -86,9 +92,9 @@ fn play(text: &[u8]) {
             tell_field(peek(s, line));
         } else if is_digit(mark) {
             let e = event(line);
-            let r = advance(t, e);
-            s = played(s, e, r.answer, by_hand);
-            t = r.state;
+            let mut out = [0u32; 4];
+            turn(&mut out, &mut m, &mut t, e);
+            s = played(s, e, answer_in(&out), by_hand);
         }
         io::write_all(1, b"\n");
         at = end + 1;

@@ -1,16 +1,10 @@
 // Tables of lock rows.
+use crate::held::*;
 use crate::text::answer;
 use crate::text::quote;
 use crate::text::say;
 use crate::text::show;
 use locks::rows::Row;
-use locks::rows::Table;
-use locks::rows::append;
-use locks::rows::is_waiting;
-use locks::rows::no_rows;
-use locks::rows::without_owner;
-use locks::rows::without_twin;
-use locks::rows::without_waiting;
 
 // The first 16 bytes of s are the sequence.
 fn row(owner: u16, shared: bool, s: &[u8]) -> Row {
@@ -62,7 +56,7 @@ pub(crate) fn sequences() {
     behind(b"0123456789ABCDE", b"0123456789ABCDEF");
 }
 
-fn asks(t: Table, r: Row, who: &[u8]) {
+fn asks(t: Held, r: Row, who: &[u8]) {
     io::write_all(1, who);
     answer(t, r);
 }
@@ -77,7 +71,7 @@ pub(crate) fn kinds() {
 }
 
 // 2 holds P shared, 3 waits for it unshared.
-fn behind_waiter(w: Table) {
+fn behind_waiter(w: Held) {
     asks(
         w,
         row(4, true, b"P"),
@@ -109,7 +103,7 @@ pub(crate) fn rows_go() {
 }
 
 // 3 holds P shared, 4 holds Q and waits for P, 5 waits for P.
-fn three_left(t: Table) {
+fn three_left(t: Held) {
     show(t);
     say(b"3 unlocks PQ, which it does not have");
     show(without_twin(t, row(3, true, b"PQ")));
@@ -120,7 +114,7 @@ fn three_left(t: Table) {
 }
 
 // 4 holds Q and P, 5 waits for P.
-fn two_left(t: Table) {
+fn two_left(t: Held) {
     show(t);
     say(b"waiting rows of 4, of 5");
     io::print_decimal(1, if is_waiting(t, 4) { 1 } else { 0 });
@@ -143,7 +137,7 @@ fn one(owner: u8, x: u8) -> Row {
 }
 
 // Each of 1 to n holds the sequence of its own number, and each but n waits for the next one's.
-fn line(n: u8) -> Table {
+fn line(n: u8) -> Held {
     let mut t = append(no_rows(), one(1, 1));
     let mut p: u8 = 1;
     while p < n {
@@ -187,7 +181,7 @@ pub(crate) fn ways_back() {
     neighbours();
 }
 
-fn ring_there(t: Table) {
+fn ring_there(t: Held) {
     say(b"3 waits for x, a ring that no paper reaches; 5 holds z");
     let r = append(t, one(5, b'z'));
     asks(r, one(4, b'x'), b"4 asks x");
@@ -206,7 +200,7 @@ fn neighbours() {
 }
 
 // 2 and 3 share P, 4 holds y.
-fn sharers() -> Table {
+fn sharers() -> Held {
     append(
         append(append(no_rows(), row(2, true, b"P")), row(3, true, b"P")),
         one(4, b'y'),
@@ -223,14 +217,14 @@ pub(crate) fn sharing() {
     behind_sharers(append(t, p));
 }
 
-fn behind_sharers(t: Table) {
+fn behind_sharers(t: Held) {
     say(b"4 waits for P, 5 holds z and waits for P shared");
     let w = append(append(t, one(5, b'z')), row(5, true, b"P"));
     asks(w, one(2, b'z'), b"2 asks z");
     asks(w, one(6, b'z'), b"6 asks z");
 }
 
-fn count(t: Table) {
+fn count(t: Held) {
     io::print_decimal(1, t.used as u64);
     say(b" rows");
 }

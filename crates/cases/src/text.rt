@@ -1,11 +1,7 @@
 // What the cases write.
-use chains::leads_back;
+use crate::held::*;
 use locks::rows::Row;
-use locks::rows::Table;
-use locks::rows::append;
-use locks::rows::has_twin;
-use locks::rows::no_rows;
-use locks::rows::waits;
+use locks::rows::Standing;
 
 pub(crate) fn say(line: &[u8]) {
     io::write_all(1, line);
@@ -28,8 +24,16 @@ pub(crate) fn quote(s: &[u8]) {
     io::write_all(1, b"\"");
 }
 
+fn waits(t: Held, r: Row) -> bool {
+    match stands(t, r) {
+        Standing::Held => false,
+        Standing::Waits => true,
+        Standing::Free => false,
+    }
+}
+
 // What comes of the request r, as the calls' checks go.
-pub(crate) fn answer(t: Table, r: Row) {
+pub(crate) fn answer(t: Held, r: Row) {
     if has_twin(t, r) {
         say(b": has its row already");
         return;
@@ -38,7 +42,7 @@ pub(crate) fn answer(t: Table, r: Row) {
         say(b": held");
         return;
     }
-    if leads_back(t, r) {
+    if closes(t, r) {
         say(b": deadlock");
     } else {
         say(b": waits");
@@ -54,7 +58,7 @@ fn quote_first(bytes: [u8; 16], n: usize) {
 }
 
 // A row that stands behind the table t.
-fn show_row(t: Table, r: Row) {
+fn show_row(t: Held, r: Row) {
     io::write_all(1, b"  ");
     io::print_decimal(1, r.owner as u64);
     if r.shared {
@@ -72,12 +76,12 @@ fn show_row(t: Table, r: Row) {
 }
 
 // The rows, each shown behind those ahead of it.
-pub(crate) fn show(t: Table) {
+pub(crate) fn show(t: Held) {
     let mut ahead = no_rows();
     let mut i: usize = 0;
     while i < 32 {
         if i < t.used {
-            let r = t.rows[i];
+            let r = row_at(t, i);
             show_row(ahead, r);
             ahead = append(ahead, r);
         }

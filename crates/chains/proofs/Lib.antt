@@ -1,6 +1,5 @@
-pub mod Drawn
-pub mod Opened
 pub mod Chains
+pub mod Opened
+pub mod Shown
 pub mod Rings
-pub mod Found
 pub mod Cases

@@ -1,96 +1,66 @@
-// The search for a chain of waits that leads from a new row back to its caller. It goes by numbers that are drawn from the rows
-// once and that its calls lend each other.
-use locks::rows::Row;
-use locks::rows::Table;
-use locks::rows::conflicts;
-use locks::rows::least;
+// The search for a chain of waits that leads from a new row back to its caller, over the rows where they lie. One row is held
+// against another only when the search comes to that pair.
+use locks::cells::*;
 ghost use mathlib.Core.Path.{_≡_};
-ghost use mathlib.Core.Bool.{true, false};
+ghost use mathlib.Core.Bool.{true};
 ghost use mathlib.Core.Logic.{_↔_};
-ghost use mathlib.Core.List.{[], _∷_, _++_};
-ghost use Prim.Native.Nat.{_<_};
-ghost use lib.ListN.{getD};
-ghost use Rattle.locks.specs.Rows.{rowsOf};
+ghost use mathlib.Core.List.{List, [], _∷_, _++_};
+ghost use Prim.Native.Nat.{ℕ, _<_};
+ghost use lib.ListN.{length};
+ghost use Rattle.locks.specs.declared.rows.Row.{Row};
 ghost use Rattle.chains.specs.Chains.{Link, Chain};
-ghost use Rattle.chains.specs.Search.{InTheWay, Owners, Ways, RowLeads, Leads, placeOf, Searched};
+ghost use Rattle.locks.specs.Cells.{CELLS, Shows};
+ghost use Rattle.chains.specs.Search.{ownerAt, First, Leads, Ready, Searched};
 
-// Whether the chain closes, and if not, which processes are opened, each at the place of its first row.
-struct Seen {
-    closes: bool,
-    opened: [bool; 33],
-}
-
-// The owner of each row, the new one last.
-fn owners_of(t: Table, r: Row) -> [u16; 33]
-    ensures { λ v. ⌜ Owners (rowsOf t ++ r ∷ []) v ⌝ }
+// The first row of the owner of row a.
+fn first_row(t: &Cells, a: usize) -> usize
+    requires { ⌜ a < CELLS ⌝ }
+    ensures { λ k. ⌜ First (now (t .entry)) a k ⌝ }
 {
-    let n = least(t.used, 32);
-    let mut owners = [0u16; 33];
+    let p = t[a * CELL + OWNER];
     let mut i: usize = 0;
-    while i < n {
-        let q = t.rows[i];
-        owners[i] = q.owner;
-        i += 1;
-    }
-    owners[n] = r.owner;
-    owners
-}
-
-// For each row, the new one last, which rows ahead conflict with it.
-fn ways_of(t: Table, r: Row) -> [bool; 1089]
-    ensures { λ v. ⌜ Ways (rowsOf t ++ r ∷ []) v ⌝ }
-{
-    let n = least(t.used, 32);
-    let mut ways = [false; 1089];
-    let mut w: usize = 0;
-    while w <= n {
-        let mut x = r;
-        if w < n {
-            let y = t.rows[w];
-            x = y;
-        }
-        let mut a: usize = 0;
-        while a < w {
-            let y = t.rows[a];
-            ways[w * 33 + a] = conflicts(x, y);
-            a += 1;
-        }
-        w += 1;
-    }
-    ways
-}
-
-// The first row of p, or 33.
-fn place(owners: &[u16; 33], p: u16) -> usize
-    ensures { λ k. ⌜ k ≡ placeOf (now (owners .entry)) p ⌝ }
-{
-    let mut i: usize = 0;
-    while i < 33 {
-        if owners[i] == p {
+    while i < a {
+        if t[i * CELL + OWNER] == p {
             return i;
         }
         i += 1;
     }
-    i
+    a
 }
 
-// A row of p has a row of c in its way: the first such pair closes the chain, and the search stops there.
-fn closes<'a>(owners: &'a [u16; 33], ways: &'a [bool; 1089], p: u16, c: u16) -> bool
-    ensures { λ b. ⌜ (b ≡ true) ↔ Leads (now (owners .entry)) (now (ways .entry)) p c ⌝ }
+// From the owner of row i to its own rows, the first of which is `from`, each held against the rows ahead of it. The caller's new
+// row is the last: the first pair whose row ahead is the caller's closes the chain, and the search stops there.
+fn owner_to_row<'a, 'b>(
+    t: &'a Cells,
+    last: usize,
+    i: usize,
+    from: usize,
+    opened: &'b mut [bool; 33],
+) -> bool
+    requires { ⌜ Ready last i (now opened) × First (now t) i from ⌝ }
+    ensures { λ b. ⌜ Searched (now (t .entry)) last (ownerAt (now (t .entry)) i) (Leads (now (t .entry)) last (ownerAt (now (t .entry)) i)) (now (opened .entry)) b (now (opened .exit)) ⌝ }
 {
+    let p = cell_at(t, i).owner;
+    let c = cell_at(t, last).owner;
     let mut found = false;
-    let mut w: usize = 0;
-    'pairs: while w < 33 {
-        if owners[w] == p {
-            let mut a = w;
-            while 0 < a {
-                a -= 1;
-                if owners[a] == c {
-                    if ways[w * 33 + a] {
+    let mut w = from;
+    'pairs: while w <= last {
+        let x = cell_at(t, w);
+        if x.owner == p {
+            let mut a: usize = 0;
+            while a < w {
+                let y = cell_at(t, a);
+                if conflicts(x, y) {
+                    if y.owner == c {
+                        found = true;
+                        break 'pairs;
+                    }
+                    if row_to_owners(t, last, a, opened) {
                         found = true;
                         break 'pairs;
                     }
                 }
+                a += 1;
             }
         }
         w += 1;
@@ -98,115 +68,25 @@ fn closes<'a>(owners: &'a [u16; 33], ways: &'a [bool; 1089], p: u16, c: u16) -> 
     found
 }
 
-// From row w to the owners of the conflicting rows ahead.
-fn row_owners<'a>(
-    owners: &'a [u16; 33],
-    ways: &'a [bool; 1089],
-    c: u16,
-    w: usize,
-    opened: [bool; 33],
-) -> Seen
-    requires { ⌜ w < 33 ⌝ }
-    ensures { λ s. ⌜ Searched (now (owners .entry)) (now (ways .entry)) c (getD (now (owners .entry)) w 0) (RowLeads (now (owners .entry)) (now (ways .entry)) w) opened s ⌝ }
+// From row a, which is in the way of a row that the search came to, to its owner, and on if that is not opened yet.
+fn row_to_owners<'a, 'b>(t: &'a Cells, last: usize, a: usize, opened: &'b mut [bool; 33]) -> bool
+    requires { ⌜ Ready last a (now opened) × (ownerAt (now t) a ≡ ownerAt (now t) last → ⊥) ⌝ }
+    ensures { λ b. ⌜ Searched (now (t .entry)) last (ownerAt (now (t .entry)) a) (_≡_ (ownerAt (now (t .entry)) a)) (now (opened .entry)) b (now (opened .exit)) ⌝ }
 {
-    let mut now_open = opened;
-    let mut a: usize = 0;
-    while a < w {
-        if ways[w * 33 + a] {
-            let s = owner_row(owners, ways, c, a, now_open);
-            if s.closes {
-                return s;
-            }
-            let more = s.opened;
-            now_open = more;
-        }
-        a += 1;
-    }
-    Seen {
-        closes: false,
-        opened: now_open,
-    }
-}
-
-// From the owner of row a to its own rows, if it is not opened yet.
-fn owner_row<'a>(
-    owners: &'a [u16; 33],
-    ways: &'a [bool; 1089],
-    c: u16,
-    a: usize,
-    opened: [bool; 33],
-) -> Seen
-    requires { ⌜ a < 33 ⌝ }
-    ensures { λ s. ⌜ Searched (now (owners .entry)) (now (ways .entry)) c (getD (now (owners .entry)) a 0) (_≡_ (getD (now (owners .entry)) a 0)) opened s ⌝ }
-{
-    let p = owners[a];
-    let k = place(owners, p);
-    let mut now_open = opened;
-    if now_open[k] {
-        return Seen {
-            closes: false,
-            opened: now_open,
-        };
-    }
-    now_open[k] = true;
-    if closes(owners, ways, p, c) {
-        return Seen {
-            closes: true,
-            opened: now_open,
-        };
-    }
-    let mut w: usize = 0;
-    while w < 33 {
-        if owners[w] == p {
-            let s = row_owners(owners, ways, c, w, now_open);
-            if s.closes {
-                return s;
-            }
-            let more = s.opened;
-            now_open = more;
-        }
-        w += 1;
-    }
-    Seen {
-        closes: false,
-        opened: now_open,
-    }
-}
-
-// A row of the table waits behind one of c.
-fn in_the_way(t: Table, c: u16) -> bool
-    ensures { λ b. ⌜ (b ≡ true) ↔ InTheWay (rowsOf t) c ⌝ }
-{
-    let n = least(t.used, 32);
-    let mut a: usize = 0;
-    while a < n {
-        if t.rows[a].owner == c {
-            let x = t.rows[a];
-            let mut w = a + 1;
-            while w < n {
-                let y = t.rows[w];
-                if conflicts(y, x) {
-                    return true;
-                }
-                w += 1;
-            }
-        }
-        a += 1;
-    }
-    false
-}
-
-// With the new row r behind the table, a chain leads from it back to its owner. Such a chain ends with a row that waits behind one
-// of that owner.
-pub fn leads_back(t: Table, r: Row) -> bool
-    ensures { λ b. ⌜ (b ≡ true) ↔ Chain (Link (rowsOf t ++ r ∷ [])) (r .owner) (r .owner) ⌝ }
-{
-    if !in_the_way(t, r.owner) {
+    let k = first_row(t, a);
+    if opened[k] {
         return false;
     }
-    let owners = owners_of(t, r);
-    let ways = ways_of(t, r);
-    let last = least(t.used, 32);
-    let s = owner_row(&owners, &ways, r.owner, last, [false; 33]);
-    s.closes
+    opened[k] = true;
+    owner_to_row(t, last, a, k, opened)
+}
+
+// From the last row, which is new, a chain leads back to its owner.
+pub fn leads_back(t: &Cells, last: usize) -> bool
+    requires { ⌜ last < CELLS ⌝ }
+    ensures { λ b. ⌜ ((rows : List Row) (r : Row) → Shows (now (t .entry)) (rows ++ r ∷ []) → length rows ≡ last → (b ≡ true) ↔ Chain (Link (rows ++ r ∷ [])) (r .owner) (r .owner)) ⌝ }
+{
+    let mut opened = [false; 33];
+    let from = first_row(t, last);
+    owner_to_row(t, last, last, from, &mut opened)
 }

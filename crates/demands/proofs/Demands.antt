@@ -2,22 +2,21 @@
 use Prim.Native.Nat.{ℕ, _+_, _-_, _*_, _≤_}
 use native.Mathlib.Omega.{arith}
 use mathlib.Core.Path.{_≡_, refl, sym, ap, _∙_}
-use mathlib.Core.Bool.{true}
-use mathlib.Core.List.{List, [], _∷_, _++_, map}
-use lib.ListN.{length, take, drop}
+use mathlib.Core.List.{List, [], _∷_, _++_, map, map-append}
+use lib.ListN.{length, take, drop, replicate}
 use lib.Dec.{ltb}
 use borrow.Author.Tests.{le-ltb}
 use lib.Seq.{take-append-seam, drop-append-seam}
 use Rattle.locks.proofs.Tests.{cases}
 use Rattle.rules.specs.State.{laid, fresh}
 use Rattle.rules.specs.Step.{stepOf}
-use Rattle.rules.specs.Sound.{sound}
+use Rattle.rules.specs.Reply.{fourOf}
+use Rattle.turns.specs.Turn.{stateIn, Holds}
 use Rattle.rules.specs.declared.state.State.{State}
 use Rattle.rules.specs.declared.state.Event.{Event}
 use Rattle.rules.specs.declared.state.Answer.{Answer}
 use Rattle.rules.specs.declared.state.Stepped.{Stepped}
 use Rattle.rules.proofs.Walk.{answers-listed, refused-keeps}
-use Rattle.rules.proofs.States.{sound-stays}
 use Rattle.papers.specs.Bytes.{joined}
 use Rattle.papers.specs.Layout.{eventCount}
 use Rattle.papers.specs.Fields.{paperOf, sheetOf}
@@ -41,8 +40,9 @@ use Rattle.marker.proofs.Places.{places-count, key-places}
 use Rattle.marker.proofs.Promises.{perfect-exact, marks-listed, keys-listed, key-long, mark-refused}
 use Rattle.model.proofs.fresh.Met as fresh-code
 use Rattle.model.proofs.step.Met as step-code
-use Rattle.model.proofs.advance.Met as advance-code
-use Rattle.model.proofs.play.Met as play-code
+use Rattle.turns.proofs.begin.Met as begin-code
+use Rattle.turns.proofs.turn.Met as turn-code
+use Rattle.model.proofs.answer_in.Met as answer-in-code
 use Rattle.marker.proofs.key.Met as key-code
 use Rattle.marker.proofs.mark.Met as mark-code
 use Rattle.marker.proofs.perfect.Met as perfect-code
@@ -53,15 +53,16 @@ use Rattle.brinefeather.proofs.brinefeather_add_sequence.Met as brinefeather-ad
 use Rattle.brinefeather.proofs.brinefeather_add_event.Met as brinefeather-add-event-code
 use Rattle.brinefeather.proofs.brinefeather_key.Met as brinefeather-key-code
 use Rattle.brinefeather.proofs.brinefeather_mark.Met as brinefeather-mark-code
-use Rattle.demands.specs.Demands.{Code, StepGives, AdvanceGives, Calls, none, more, ByTheRules, Demand1, Demand2}
+use Rattle.demands.specs.Demands.{Code, StepGives, BeginGives, Calls, none, more, Turns, begun, turned, ByTheRules, Demand1, Demand2}
 
 pub code : {M : Type 1} → Code M
 code =
     record {
       fresh = fresh-code.met;
       step = step-code.met;
-      advance = advance-code.met;
-      play = play-code.met;
+      begin = begin-code.met;
+      turn = turn-code.met;
+      answer-in = answer-in-code.met;
       key = key-code.met;
       mark = mark-code.met;
       perfect = perfect-code.met;
@@ -92,9 +93,23 @@ by-the-rules G keeps f (more {es = es} {given = given} {t = t} c e r g) =
       state = rw (state-more (laid fresh) es e) (ap (λ (x : Stepped). x .state) a);
     }
 
-sound-from : (s : State) → sound s ≡ true → (es : List Event) → sound (stateFrom s es) ≡ true
-sound-from s h [] = h
-sound-from s h (e ∷ es) = sound-from (stepOf s e .state) (sound-stays .next s e h) es
+-- what the arrays hold after some turns
+record Held (m t : List ℕ) (es : List Event) (given : List (List ℕ)) : Type 0 where
+  holds : Holds m t
+  answers : given ≡ map fourOf (answersFrom (laid fresh) es)
+  state : stateIn m t ≡ stateFrom (laid fresh) es
+
+held : {m : List ℕ} → BeginGives m → {es : List Event} {given : List (List ℕ)} {after rows : List ℕ} → Turns m (replicate 132 0) es given after rows → Held after rows es given
+held b begun = record { holds = b .0; answers = refl; state = b .1 }
+held b (turned {es = es} {given = given} c out e answer after rows g) =
+    let k = held b c in
+    record {
+      holds = g .holds;
+      answers =
+          rw (answers-more (laid fresh) es e, map-append fourOf (answersFrom (laid fresh) es) (stepOf (stateFrom (laid fresh) es) e .answer ∷ []), ← k .state, k .answers)
+          (ap (λ (x : List ℕ). map fourOf (answersFrom (laid fresh) es) ++ x ∷ []) (g .answer));
+      state = g .state ∙ rw (state-more (laid fresh) es e, k .state);
+    }
 
 -- ---- keys
 
@@ -208,8 +223,9 @@ pub demand-2 : Demand2
 demand-2 =
     record {
       steps = λ s f es given t c. by-the-rules StepGives (λ u e r g. g) f c;
-      advances = λ s f es given t c. by-the-rules AdvanceGives (λ u e r g. g .0) f c;
-      may = λ s f es given t c e. rw (by-the-rules AdvanceGives (λ u d r g. g .0) f c .state) (sound-from (laid fresh) (sound-stays .first) es);
+      begins = refl;
+      turns = λ m b es given after rows c. let k = held b c in (k .answers, k .state);
+      may = λ m b es given after rows c out n e. (held b c .holds, n);
       every = every;
       written = λ p buffer n e h r after g. ap (λ (x : Keyed × List ℕ). x .0) g ∙ keyed-is p buffer n e h;
       sheet = sheet-is;

@@ -4,15 +4,18 @@ use mathlib.Core.Path.{_≡_}
 use mathlib.Core.Bool.{true}
 use mathlib.Core.Logic.{_↔_}
 use mathlib.Core.List.{List, [], _∷_, _++_, map}
-use lib.ListN.{length, take, drop}
+use lib.ListN.{length, take, drop, replicate}
 use denote.Ref.{RefT}
 use Rattle.rules.specs.State.{laid, fresh}
 use Rattle.rules.specs.Step.{stepOf}
+use Rattle.rules.specs.Reply.{fourOf}
 use Rattle.rules.specs.Promises.{Listed}
 use Rattle.rules.specs.declared.state.State.{State}
 use Rattle.rules.specs.declared.state.Event.{Event}
 use Rattle.rules.specs.declared.state.Answer.{Answer}
 use Rattle.rules.specs.declared.state.Stepped.{Stepped}
+use Rattle.places.specs.Places.{NUMBERS}
+use Rattle.turns.specs.Turn.{stateIn}
 use Rattle.papers.specs.Layout.{eventCount}
 use Rattle.papers.specs.Fields.{paperOf, sheetOf}
 use Rattle.papers.specs.Events.{eventsOf}
@@ -30,9 +33,11 @@ use Rattle.model.proofs.fresh.Statement as fresh-theorem
 use Rattle.model.proofs.fresh.Reads as fresh-promise
 use Rattle.model.proofs.step.Statement as step-theorem
 use Rattle.model.proofs.step.Reads as step-promise
-use Rattle.model.proofs.advance.Statement as advance-theorem
-use Rattle.model.proofs.advance.Reads as advance-promise
-use Rattle.model.proofs.play.Statement as play-theorem
+use Rattle.turns.proofs.begin.Statement as begin-theorem
+use Rattle.turns.proofs.begin.Reads as begin-promise
+use Rattle.turns.proofs.turn.Statement as turn-theorem
+use Rattle.turns.proofs.turn.Reads as turn-promise
+use Rattle.model.proofs.answer_in.Statement as answer-in-theorem
 use Rattle.marker.proofs.key.Statement as key-theorem
 use Rattle.marker.proofs.key.Reads as key-promise
 use Rattle.marker.proofs.mark.Statement as mark-theorem
@@ -52,8 +57,9 @@ use Rattle.brinefeather.proofs.brinefeather_mark.Statement as brinefeather-mark
 pub record Code (M : Type 1) : Type 2 where
   pub fresh : fresh-theorem.statement M
   pub step : step-theorem.statement M
-  pub advance : advance-theorem.statement M
-  pub play : play-theorem.statement M
+  pub begin : begin-theorem.statement M
+  pub turn : turn-theorem.statement M
+  pub answer-in : answer-in-theorem.statement M
   pub key : key-theorem.statement M
   pub mark : mark-theorem.statement M
   pub perfect : perfect-theorem.statement M
@@ -65,7 +71,7 @@ pub record Code (M : Type 1) : Type 2 where
   pub brinefeather-add-sequence : brinefeather-add-sequence-theorem.statement M
   pub brinefeather-add-event : brinefeather-add-event-theorem.statement M
 
--- What the promises say of a call, as any caller reads them. `fresh` gives s. `step` and `advance` ask for this of the state s and the event e, and give r for them.
+-- What the promises say of a call, as any caller reads them. `fresh` gives s. `step` asks for this of the state s and the event e, and gives r for them.
 abbrev pub FreshGives : State → Type 0
 FreshGives s = fresh-promise.Post tt tt s tt
 
@@ -75,15 +81,24 @@ StepAsks s e = step-promise.Pre tt (s, (e, tt))
 abbrev pub StepGives : State → Event → Stepped → Type 0
 StepGives s e r = step-promise.Post tt (s, (e, tt)) r (s, (e, tt))
 
-abbrev pub AdvanceAsks : State → Event → Type 0
-AdvanceAsks s e = advance-promise.Pre tt (s, (e, tt))
-
-abbrev pub AdvanceGives : State → Event → Stepped → Type 0
-AdvanceGives s e r = advance-promise.Post tt (s, (e, tt)) r (s, (e, tt))
-
--- bytes, lent from one place: the promises read the bytes alone
+-- bytes or numbers, lent from one place: the promises read these alone
 abbrev lent : List ℕ → RefT (List ℕ)
 lent x = record { ptr = (0, 0); name = 0; now = x }
+
+-- `begin` asks for this of an array of zeros, and gives m
+abbrev pub BeginAsks : Type 0
+BeginAsks = begin-promise.Pre (replicate NUMBERS 0, tt) (lent (replicate NUMBERS 0), tt)
+
+abbrev pub BeginGives : List ℕ → Type 0
+BeginGives m = begin-promise.Post (replicate NUMBERS 0, tt) (lent (replicate NUMBERS 0), tt) tt (lent m, tt)
+
+-- `turn` asks for this of the answer's array, the arrays m and t and the event e, and gives the answer and the arrays after it
+abbrev pub TurnAsks : List ℕ → List ℕ → List ℕ → Event → Type 0
+TurnAsks out m t e = turn-promise.Pre (out, (m, (t, tt))) (lent out, (lent m, (lent t, (e, tt))))
+
+abbrev pub TurnGives : List ℕ → List ℕ → List ℕ → Event → List ℕ → List ℕ → List ℕ → Type 0
+TurnGives out m t e answer after rows =
+    turn-promise.Post (out, (m, (t, tt))) (lent out, (lent m, (lent t, (e, tt)))) tt (lent answer, (lent after, (lent rows, (e, tt))))
 
 -- `key` asks for this of the paper p and the buffer, and gives r, with `after` in the buffer then
 abbrev pub KeyAsks : List ℕ → List ℕ → Type 0
@@ -129,6 +144,12 @@ pub data Calls (Gives : State → Event → Stepped → Type 0) (s : State) : Li
   more : {es : List Event} {given : List Answer} {t : State} → Calls Gives s es given t → (e : Event) (r : Stepped) → Gives t e r
       → Calls Gives s (es ++ e ∷ []) (given ++ r .answer ∷ []) (r .state)
 
+-- turns one after the other, each on the arrays that the last one left: the events, the answers given, the arrays then
+pub data Turns (m t : List ℕ) : List Event → List (List ℕ) → List ℕ → List ℕ → Type 0 where
+  begun : Turns m t [] [] m t
+  turned : {es : List Event} {given : List (List ℕ)} {u v : List ℕ} → Turns m t es given u v → (out : List ℕ) (e : Event) (answer after rows : List ℕ)
+      → TurnGives out u v e answer after rows → Turns m t (es ++ e ∷ []) (given ++ answer ∷ []) after rows
+
 -- the answers, and the state, of the rules
 pub record ByTheRules (es : List Event) (given : List Answer) (s : State) : Type 0 where
   pub answers : given ≡ answersFrom (laid fresh) es
@@ -137,9 +158,13 @@ pub record ByTheRules (es : List Event) (given : List Answer) (s : State) : Type
 pub record Demand2 : Type 0 where
   -- "From the fresh state, through any events, each event gives exactly the answer and new state of the rules."
   pub steps : (s : State) → FreshGives s → (es : List Event) (given : List Answer) (t : State) → Calls StepGives s es given t → ByTheRules es given t
-  pub advances : (s : State) → FreshGives s → (es : List Event) (given : List Answer) (t : State) → Calls AdvanceGives s es given t → ByTheRules es given t
-  -- `advance` may be called at each of them
-  pub may : (s : State) → FreshGives s → (es : List Event) (given : List Answer) (t : State) → Calls AdvanceGives s es given t → (e : Event) → AdvanceAsks t e
+  -- the same of `turn`: the arrays hold the state of the rules, and the answers are theirs, as four numbers
+  pub begins : BeginAsks
+  pub turns : (m : List ℕ) → BeginGives m → (es : List Event) (given : List (List ℕ)) (after rows : List ℕ) → Turns m (replicate 132 0) es given after rows
+      → (given ≡ map fourOf (answersFrom (laid fresh) es)) × (stateIn after rows ≡ stateFrom (laid fresh) es)
+  -- `turn` may be called at each of them
+  pub may : (m : List ℕ) → BeginGives m → (es : List Event) (given : List (List ℕ)) (after rows : List ℕ) → Turns m (replicate 132 0) es given after rows
+      → (out : List ℕ) → length out ≡ 4 → (e : Event) → TurnAsks out after rows e
   -- the answers of the rules, at every event: the one to that event in the state that those before it left
   pub every : (s : State) (before : List Event) (e : Event) (rest : List Event)
       → answersFrom s (before ++ e ∷ rest) ≡ answersFrom s before ++ stepOf (stateFrom s before) e .answer ∷ answersFrom (stateFrom s (before ++ e ∷ [])) rest

@@ -1,5 +1,5 @@
 -- Sixteen bytes as two numbers, and rows told by them. Assumes nothing.
-use Prim.Native.Nat.{ℕ, zero, suc, _+_, _-_, _*_, _≤_, _<_}
+use Prim.Native.Nat.{ℕ, zero, suc, _+_, _-_, _≤_, _<_}
 use native.Mathlib.Omega.{arith}
 use mathlib.Core.Path.{_≡_, refl, sym, ap, _∙_}
 use mathlib.Core.Bool.{Bool, true, false, not}
@@ -14,7 +14,7 @@ use Rattle.locks.specs.Words.{isByte, value, Worded, fitRow, Told, Note}
 use Rattle.locks.specs.declared.rows.Row.{Row}
 use Rattle.locks.specs.declared.words.Words.{Words}
 use Rattle.locks.proofs.Tests.{cases, off, and-split, and-join}
-use Rattle.locks.proofs.Lists.{all-drop}
+use Rattle.locks.proofs.Lists.{all-drop, all-get}
 use Rattle.locks.proofs.Loops.{agree-self, agree-at}
 use Rattle.locks.proofs.Fewer.{fewer-all, fewer-take}
 
@@ -29,12 +29,7 @@ module _ {bytes : List ℕ} {w : Words} (p : Worded bytes w) where
   length-low = length-take-le 8 bytes (omega (arith, p .long))
 
   pub byte-at : (i : ℕ) → getD bytes i 0 < 256
-  byte-at i = small-at bytes i (p .small)
-    where
-      small-at : (xs : List ℕ) (k : ℕ) → all isByte xs ≡ true → getD xs k 0 < 256
-      small-at [] k h = omega arith
-      small-at (x ∷ xs) zero h = ltb-true x 256 (and-split (isByte x) (all isByte xs) h .0)
-      small-at (x ∷ xs) (suc k) h = small-at xs k (and-split (isByte x) (all isByte xs) h .1)
+  byte-at i = ltb-true (getD bytes i 0) 256 (all-get isByte bytes 0 i refl (p .small))
 
 -- ---- equal numbers
 
@@ -60,13 +55,8 @@ same-words {x} {y} p q e f =
 
 -- ---- equal sequences
 
-zero-at : (xs : List ℕ) → all isZero xs ≡ true → (i : ℕ) → getD xs i 0 ≡ 0
-zero-at [] h i = refl
-zero-at (x ∷ xs) h zero = eqb-true x 0 (and-split (isZero x) (all isZero xs) h .0)
-zero-at (x ∷ xs) h (suc i) = zero-at xs (and-split (isZero x) (all isZero xs) h .1) i
-
 after : (n : ℕ) (xs : List ℕ) → all isZero (drop n xs) ≡ true → (i : ℕ) → n ≤ i → getD xs i 0 ≡ 0
-after n xs h i l = let e : n + (i - n) ≡ i = omega arith in ap (λ k. getD xs k 0) (sym e) ∙ sym (getD-drop n xs (i - n) 0) ∙ zero-at (drop n xs) h (i - n)
+after n xs h i l = let e : n + (i - n) ≡ i = omega arith in ap (λ k. getD xs k 0) (sym e) ∙ sym (getD-drop n xs (i - n) 0) ∙ eqb-true (getD (drop n xs) (i - n) 0) 0 (all-get isZero (drop n xs) 0 (i - n) refl h)
 
 same-bytes : (n : ℕ) (x y : List ℕ) → length x ≡ length y → all isZero (drop n x) ≡ true → all isZero (drop n y) ≡ true → agree n x y ≡ true → x ≡ y
 same-bytes n x y e h k a =
@@ -111,4 +101,3 @@ bytes-from (suc n) i x h = rw (drop-cons x i 0 (omega arith), bytes-from n (suc 
 pub all-at : (f : ℕ → Bool) (xs : List ℕ) → ((i : ℕ) → f (getD xs i 0) ≡ true) → all f xs ≡ true
 all-at f [] h = refl
 all-at f (x ∷ xs) h = and-join (f x) (all f xs) (h 0) (all-at f xs (λ i. h (suc i)))
-

@@ -2,7 +2,11 @@ pub mod Tests
 pub mod Lists
 pub mod Fewer
 pub mod Loops
-pub mod Tables
 pub mod Bytes
+pub mod Pieces
+pub mod Closing
+pub mod Padding
+pub mod Telling
+pub mod Gaps
 pub mod Named
 pub mod Cases

@@ -1,83 +1,47 @@
--- One turn of the loops that play a paper: what is left is the part at hand, and what is left after it. Assumes nothing.
-use mathlib.Core.Path.{_≡_, refl, ap, _∙_}
-use mathlib.Core.List.{List, [], _∷_, _++_, map, map-append, append-assoc, append-nil}
-use Prim.Native.Nat.{ℕ, zero, suc, _+_, _-_, _*_, _≤_}
+-- One turn of the loops that play a paper: what is left is the event at hand, and what is left after it. Assumes nothing.
+use mathlib.Core.Path.{_≡_, _∙_}
+use mathlib.Core.List.{List, _∷_, _++_, map, append-assoc, append-nil}
+use Prim.Native.Nat.{ℕ, suc, _+_, _-_, _*_, _≤_, _<_}
 use native.Mathlib.Omega.{arith}
 use lib.ListN.{length, take, drop, length-drop, length-append}
 use lib.Seq.{take-all, take-at, drop-at, length-take-le, take-length, drop-length, drop-drop}
 use Rattle.rules.specs.Step.{stepOf}
+use Rattle.rules.specs.Play.{answersFrom}
 use Rattle.rules.specs.declared.state.State.{State}
 use Rattle.rules.specs.declared.state.Event.{Event}
-use Rattle.rules.specs.declared.state.Answer.{Answer}
-use Rattle.rules.proofs.Plays.{answers-count}
-use Rattle.locks.specs.Lists.{padded}
+use Rattle.turns.specs.Turn.{stateIn, Turned}
 use Rattle.papers.specs.Bytes.{run, sixteensFrom}
 use Rattle.papers.specs.Events.{eventAt, eventsFrom}
-use Rattle.papers.specs.Answers.{answerBytes}
-use Rattle.rules.specs.Play.{answersFrom, noAnswer, stateFrom}
+use Rattle.papers.specs.Answers.{answerBytes, replyBytes}
+use Rattle.papers.proofs.Fits.{reply-step}
 
 -- the places of the n - i events from the one at hand on
 abbrev pub left : State → List ℕ → ℕ → ℕ → List (List ℕ)
 left t p n i = map answerBytes (answersFrom t (eventsFrom p (12 + 20 * i) (n - i)))
 
--- ---- a part and what is left after it
+-- ---- the event at hand and what is left after it
 
-events-more : (p : List ℕ) (at m k : ℕ) → eventsFrom p at (m + k) ≡ eventsFrom p at m ++ eventsFrom p (at + 20 * m) k
-events-more p at zero k = let e : 0 + k ≡ k = omega arith in let f : at + 20 * 0 ≡ at = omega arith in rw (e, f)
-events-more p at (suc m) k =
-    let e : suc m + k ≡ suc (m + k) = omega arith in
-    let f : at + 20 * suc m ≡ at + 20 + 20 * m = omega arith in
-    rw (e, f, events-more p (at + 20) m k)
+left-one : (s : State) (p : List ℕ) (n i : ℕ) → i < n
+    → left s p n i ≡ answerBytes (stepOf s (eventAt p (12 + 20 * i)) .answer) ∷ left (stepOf s (eventAt p (12 + 20 * i)) .state) p n (i + 1)
+left-one s p n i h =
+    let e : n - i ≡ suc (n - (i + 1)) = omega arith in
+    let f : 12 + 20 * (i + 1) ≡ 12 + 20 * i + 20 = omega arith in
+    rw (e, f)
 
--- one event more
-pub events-end : (p : List ℕ) (at m : ℕ) → eventsFrom p at (m + 1) ≡ eventsFrom p at m ++ eventAt p (at + 20 * m) ∷ []
-events-end p at m = events-more p at m 1
+-- as it is played: its four numbers, and what is left in the state after it
+pub left-played : (p : List ℕ) (n i : ℕ) {m t out after rows : List ℕ} {e : Event} → i < n → e ≡ eventAt p (12 + 20 * i) → Turned m t e out after rows
+    → left (stateIn m t) p n i ≡ replyBytes out ∷ left (stateIn after rows) p n (i + 1)
+left-played p n i {m} {t} {out} {after} {rows} {e} h k u =
+    let b : replyBytes out ≡ answerBytes (stepOf (stateIn m t) e .answer) = rw (u .answer) (reply-step (stateIn m t) e) in
+    rw (b, u .state, k) (left-one (stateIn m t) p n i h)
 
-places-more : (s : List ℕ) (at m k : ℕ) → sixteensFrom s at (m + k) ≡ sixteensFrom s at m ++ sixteensFrom s (at + 16 * m) k
-places-more s at zero k = let e : 0 + k ≡ k = omega arith in let f : at + 16 * 0 ≡ at = omega arith in rw (e, f)
-places-more s at (suc m) k =
-    let e : suc m + k ≡ suc (m + k) = omega arith in
-    let f : at + 16 * suc m ≡ at + 16 + 16 * m = omega arith in
-    rw (e, f, places-more s (at + 16) m k)
+pub sheet-one : (s : List ℕ) (n i : ℕ) → i < n → sixteensFrom s (6 + 16 * i) (n - i) ≡ run s (6 + 16 * i) 16 ∷ sixteensFrom s (6 + 16 * (i + 1)) (n - (i + 1))
+sheet-one s n i h =
+    let e : n - i ≡ suc (n - (i + 1)) = omega arith in
+    let f : 6 + 16 * (i + 1) ≡ 6 + 16 * i + 16 = omega arith in
+    rw (e, f)
 
-pub places-end : (s : List ℕ) (at m : ℕ) → sixteensFrom s at (m + 1) ≡ sixteensFrom s at m ++ run s (at + 16 * m) 16 ∷ []
-places-end s at m = places-more s at m 1
-
-answers-both : (t : State) (es fs : List Event) → answersFrom t (es ++ fs) ≡ answersFrom t es ++ answersFrom (stateFrom t es) fs
-answers-both t [] fs = refl
-answers-both t (e ∷ es) fs = rw (answers-both (stepOf t e .state) es fs)
-
--- the answers of a part, in the array that holds them
-part-answers : (t : State) (es : List Event) (m : ℕ) (xs : List Answer) → length es ≡ m → xs ≡ padded 16 noAnswer (answersFrom t es) → take m xs ≡ answersFrom t es
-unfolding padded
-part-answers t es m xs l h = rw h (take-at (answersFrom t es) _ m (answers-count t es ∙ l))
-
-events-count : (p : List ℕ) (at m : ℕ) → length (eventsFrom p at m) ≡ m
-events-count p at zero = refl
-events-count p at (suc m) = ap suc (events-count p (at + 20) m)
-
-module _ (t : State) (p : List ℕ) (n i m : ℕ) (h : i + m ≤ n) where
-  abbrev part : List Event
-  part = eventsFrom p (12 + 20 * i) m
-
-  pub left-more : left t p n i ≡ map answerBytes (answersFrom t part) ++ left (stateFrom t part) p n (i + m)
-  left-more =
-      let e : n - i ≡ m + (n - (i + m)) = omega arith in
-      let f : 12 + 20 * (i + m) ≡ 12 + 20 * i + 20 * m = omega arith in
-      rw (e, f, events-more p (12 + 20 * i) m (n - (i + m)), answers-both t part (eventsFrom p (12 + 20 * i + 20 * m) (n - (i + m))), map-append)
-
--- a part as it is played
-pub played : (t : State) (p : List ℕ) (i m : ℕ) (es : List Event) (xs : List Answer) (u : State) → take m es ≡ eventsFrom p (12 + 20 * i) m
-    → xs ≡ padded 16 noAnswer (answersFrom t (take m es)) → u ≡ stateFrom t (take m es)
-    → (take m xs ≡ answersFrom t (eventsFrom p (12 + 20 * i) m)) × (u ≡ stateFrom t (eventsFrom p (12 + 20 * i) m))
-played t p i m es xs u e f g =
-    (part-answers t (eventsFrom p (12 + 20 * i) m) m xs (events-count p (12 + 20 * i) m) (rw e at f), rw e at g)
-
-pub sheet-more : (s : List ℕ) (n i m : ℕ) → i + m ≤ n → sixteensFrom s (6 + 16 * i) (n - i) ≡ sixteensFrom s (6 + 16 * i) m ++ sixteensFrom s (6 + 16 * (i + m)) (n - (i + m))
-sheet-more s n i m h =
-    let e : n - i ≡ m + (n - (i + m)) = omega arith in
-    let f : 6 + 16 * (i + m) ≡ 6 + 16 * i + 16 * m = omega arith in
-    rw (e, f) (places-more s (6 + 16 * i) m (n - (i + m)))
+-- ---- buffers
 
 -- what `bytes::copy` leaves, of a run of n bytes
 pub copied : (x y o : List ℕ) (n : ℕ) → length x ≡ n → y ≡ take (length x) x ++ drop (length x) o → y ≡ x ++ drop n o

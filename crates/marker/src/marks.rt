@@ -1,26 +1,20 @@
 // A sheet marked by its paper.
-use crate::parts::*;
-use locks::rows::same_bytes;
-use model::fresh;
-use model::play;
-use papers::answer_bytes;
+use model::begin;
+use model::turn;
+use papers::event;
 use papers::layout::Read;
 use papers::layout::Refusal;
 use papers::paper;
-use papers::place;
 use papers::sheet;
-use rules::state::Answer;
-use rules::state::State;
+use papers::stands_at;
 ghost use mathlib.Core.Path.{_≡_};
-ghost use mathlib.Core.Bool.{true};
 ghost use mathlib.Core.List.{map};
-ghost use Prim.Native.Nat.{_+_, _-_, _*_, _≤_, min};
-ghost use lib.ListN.{take};
-ghost use Rattle.rules.specs.Sound.{sound};
+ghost use Prim.Native.Nat.{_-_, min};
+ghost use Rattle.rules.specs.State.{laid, fresh};
+ghost use Rattle.rules.specs.Play.{answersFrom};
 ghost use Rattle.papers.specs.Bytes.{sixteensFrom};
 ghost use Rattle.papers.specs.Events.{eventsFrom};
 ghost use Rattle.papers.specs.Answers.{answerBytes};
-ghost use Rattle.rules.specs.Play.{answersFrom};
 ghost use Rattle.marker.specs.Mark.{rightPlaces, marked, isPerfect};
 
 // What a sheet is worth, or the refusal.
@@ -34,6 +28,12 @@ pub enum Marked {
     Refused(Refusal),
 }
 
+fn lesser(a: u16, b: u16) -> u16
+    ensures { λ r. ⌜ r ≡ min a b ⌝ }
+{
+    if a < b { a } else { b }
+}
+
 // What a is above b, if it is.
 fn above(a: u16, b: u16) -> u16
     ensures { λ r. ⌜ r ≡ a - b ⌝ }
@@ -41,39 +41,22 @@ fn above(a: u16, b: u16) -> u16
     if a < b { 0 } else { a - b }
 }
 
-// How many of the first m answers stand in the sheet's places from place i on.
-fn right_few(answers: [Answer; 16], sheet: &[u8], i: u16, m: u16) -> u16
-    requires { ⌜ (m ≤ 16) × (i + m ≤ 65535) ⌝ }
-    ensures { λ r. ⌜ r ≡ rightPlaces (map answerBytes (take m answers)) (sixteensFrom (now (sheet .entry)) (6 + 16 * i) m) ⌝ }
+// In how many of the first n places the sheet has the answer to the paper's event.
+fn right_places(p: &[u8], sheet: &[u8], n: u16) -> u16
+    ensures { λ r. ⌜ r ≡ rightPlaces (map answerBytes (answersFrom (laid fresh) (eventsFrom (now (p .entry)) 12 n))) (sixteensFrom (now (sheet .entry)) 6 n) ⌝ }
 {
-    let mut right: u16 = 0;
-    let mut k: u16 = 0;
-    while k < m {
-        let a = answers[k as usize];
-        if same_bytes(answer_bytes(a), place(sheet, i + k), 16) {
-            right += 1;
-        }
-        k += 1;
-    }
-    right
-}
-
-// In how many of the first n places the sheet has the answer to the paper's event, the first given in the state s.
-fn right_places(mut s: State, p: &[u8], sheet: &[u8], n: u16) -> u16
-    requires { ⌜ sound s ≡ true ⌝ }
-    ensures { λ r. ⌜ r ≡ rightPlaces (map answerBytes (answersFrom s (eventsFrom (now (p .entry)) 12 n))) (sixteensFrom (now (sheet .entry)) 6 n) ⌝ }
-{
+    let mut m = [0u32; 451];
+    let mut t = [0u64; 132];
+    begin(&mut m);
     let mut right: u16 = 0;
     let mut i: u16 = 0;
     while i < n {
-        let m = lesser(n - i, 16);
-        let es = events(p, i, m);
-        let r = play(s, es, m as usize);
-        let answers = r.answers;
-        right += right_few(answers, sheet, i, m);
-        let t = r.state;
-        s = t;
-        i += m;
+        let mut a = [0u32; 4];
+        turn(&mut a, &mut m, &mut t, event(p, i));
+        if stands_at(sheet, i, &a) {
+            right += 1;
+        }
+        i += 1;
     }
     right
 }
@@ -89,7 +72,7 @@ pub fn mark(p: &[u8], s: &[u8]) -> Marked
             Read::Count(answers) => {
                 Marked::Mark {
                     total: total,
-                    right: right_places(fresh(), p, s, lesser(total, answers)),
+                    right: right_places(p, s, lesser(total, answers)),
                     missing: above(total, answers),
                     surplus: above(answers, total),
                 }

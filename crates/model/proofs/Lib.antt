@@ -1,3 +1,4 @@
-pub mod Sound
-pub mod Kept
-pub mod Plays
+pub mod Putting
+pub mod Readings
+pub mod Replying
+pub mod Unused

@@ -5,9 +5,10 @@ pub mod entries;
 mod events;
 pub mod layout;
 
-pub use crate::answers::answer_bytes;
 pub use crate::answers::header;
 pub use crate::answers::place;
+pub use crate::answers::put_reply;
+pub use crate::answers::stands_at;
 pub use crate::bytes::high;
 pub use crate::bytes::high_half;
 pub use crate::bytes::low;

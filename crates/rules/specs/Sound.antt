@@ -76,13 +76,15 @@ reactionsFit pid reactions =
 unfoldable pub lockFits : List Row → ℕ → ℕ → Bool
 lockFits rows pid sleep = eqb (length (waitingOf pid rows)) (cond (eqb sleep forLock) 1 0)
 
--- and "priorities lie in -40..40"
-unfoldable pub soundProcess : List Row → Process → Bool
-soundProcess rows p =
+-- what concerns the process alone; and "priorities lie in -40..40"
+abbrev pub soundAlone : Process → Bool
+soundAlone p =
     sleepFits (p .rest .sleep) (p .rest .seconds) && wakeFits (p .rest .wake) (p .rest .left)
     && quiet (p .rest .sleep) (p .signals .pending) && trapsFit (p .signals .pending) (p .signals .traps)
     && inPriority (p .priority) && reactionsFit (p .pid) (p .signals .reactions)
-    && lockFits rows (p .pid) (p .rest .sleep)
+
+unfoldable pub soundProcess : List Row → Process → Bool
+soundProcess rows p = soundAlone p && lockFits rows (p .pid) (p .rest .sleep)
 
 -- ---- the state
 

@@ -3,5 +3,4 @@ pub mod Laws
 pub mod Words
 pub mod Meeting
 pub mod Waiting
-pub mod Owners
 pub mod Whole

@@ -24,7 +24,11 @@ use Rattle.locks.specs.Words.{fitRow}
 use Rattle.soundness.specs.Waiting.{ownerOf}
 use Rattle.soundness.proofs.Loops.{left-none, Passing, first, pass, fail, passed}
 use Rattle.soundness.proofs.Laws.{take-pids}
-use Rattle.soundness.proofs.Owners.{owners-of-rows}
+
+-- the rows by their owners
+owners-of-rows : (ns : List ℕ) (rows : List Row) → all (λ x. member x ns) (map ownerOf rows) ≡ all (λ r. member (r .owner) ns) rows
+owners-of-rows ns [] = refl
+owners-of-rows ns (r ∷ rows) = rw (owners-of-rows ns rows)
 
 -- ---- the parts
 

@@ -3,25 +3,19 @@ use Prim.Native.Nat.{ℕ, zero, suc, _+_, _-_, _*_, _/_, _^_, _≤_, _<_}
 use native.Mathlib.Nat.{div-div-eq-div-mul, zero-div}
 use native.Mathlib.Omega.{arith}
 use mathlib.Core.Path.{_≡_, refl, sym, ap, _∙_}
-use mathlib.Core.Bool.{Bool, true, false, not, _&&_, and-comm, and-assoc}
+use mathlib.Core.Bool.{Bool, true, _&&_, and-comm, and-assoc}
 use mathlib.Core.List.{List, [], _∷_, _++_}
-use lib.Dec.{eqb, leb}
-use lib.ListN.{length, getD, take, drop, take-append-drop, length-drop, drop-of-length-le}
-use lib.Seq.{drop-append-le, drop-drop, drop-cons, getD-drop, length-take-le, ext-getD}
+use lib.Dec.{eqb}
+use lib.ListN.{take, drop, take-append-drop, drop-of-length-le}
+use lib.Seq.{drop-append-le, drop-drop}
 use lib.Pow.{pow-add}
-use borrow.Author.Tests.{eq-eqb, ne-eqb, eqb-true, eqb-false, leb-true, leb-false, ltb-true, not-false}
-use Rattle.locks.specs.Lists.{all, between, isZero, agree}
-use Rattle.locks.specs.Rows.{sameSequence}
-use Rattle.locks.specs.declared.rows.Row.{Row}
-use Rattle.locks.proofs.Tests.{cases, off, and-split, and-join}
-use Rattle.locks.proofs.Lists.{all-drop}
-use Rattle.locks.proofs.Loops.{agree-self, agree-at}
-use Rattle.locks.proofs.Fewer.{fewer-all}
+use borrow.Author.Tests.{ne-eqb, eqb-true, eqb-false, ltb-true}
+use Rattle.locks.specs.Lists.{all, isZero}
+use Rattle.locks.proofs.Tests.{cases, and-split}
 use Rattle.locks.specs.Words.{isByte, value, Worded}
 use Rattle.locks.proofs.Bytes.{small-low, small-high, length-low}
 use Rattle.locks.specs.declared.words.Words.{Words}
 use Rattle.soundness.proofs.Loops.{zero-sum}
-use Rattle.locks.proofs.Fewer.{fewer-take}
 
 -- ---- the bytes that are left
 

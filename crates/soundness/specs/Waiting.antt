@@ -1,17 +1,16 @@
 -- Rows as the code holds them, and the rows that wait, found once for all processes. Assumes nothing.
-use Prim.Native.Nat.{ℕ, _+_, _*_, _≤_, _<_}
+use Prim.Native.Nat.{ℕ, _≤_, _<_}
 use mathlib.Core.Path.{_≡_}
 use mathlib.Core.Bool.{Bool, true, false, cond, _&&_}
-use mathlib.Core.List.{List, [], _∷_, map}
-use lib.Dec.{eqb, ltb}
-use lib.ListN.{length, getD, take, drop}
-use Rattle.locks.specs.Lists.{any, all, between, isZero, member, sift}
+use mathlib.Core.List.{List, [], map}
+use lib.Dec.{eqb}
+use lib.ListN.{length, getD, take}
+use Rattle.locks.specs.Lists.{any, all, member, sift}
 use Rattle.locks.specs.Rows.{twin, waits, apart}
 use Rattle.locks.specs.Words.{fitRow, Note}
 use Rattle.locks.specs.declared.rows.Row.{Row}
 use Rattle.rules.specs.State.{forLock}
-use Rattle.rules.specs.Calls.{inPriority}
-use Rattle.rules.specs.Sound.{sleepFits, wakeFits, quiet, trapsFit, reactionsFit}
+use Rattle.rules.specs.Sound.{soundAlone}
 use Rattle.rules.specs.declared.state.Process.{Process}
 use Rattle.soundness.specs.declared.rows.Waiters.{Waiters}
 
@@ -43,16 +42,8 @@ pub record Waiting (rows : List Row) (w : Waiters) : Type 0 where
   pub them : w .apart ≡ true → take (w .count) (w .owners) ≡ waiters rows
   pub everyone : w .apart ≡ true → take (length rows) (w .all) ≡ map ownerOf rows
 
--- nothing stands there but zeros and some of ns
-pub record Homes (ns homes : List ℕ) : Type 0 where
-  pub each : (k : ℕ) → (getD homes k 0 ≡ 0 → ⊥) → member (getD homes k 0) ns ≡ true
-
 -- ---- processes
 
 -- a process of which so many rows wait is sound
 unfoldable pub soundWaiting : ℕ → Process → Bool
-soundWaiting n p =
-    sleepFits (p .rest .sleep) (p .rest .seconds) && wakeFits (p .rest .wake) (p .rest .left)
-    && quiet (p .rest .sleep) (p .signals .pending) && trapsFit (p .signals .pending) (p .signals .traps)
-    && inPriority (p .priority) && reactionsFit (p .pid) (p .signals .reactions)
-    && eqb n (cond (eqb (p .rest .sleep) forLock) 1 0)
+soundWaiting n p = soundAlone p && eqb n (cond (eqb (p .rest .sleep) forLock) 1 0)

@@ -24,7 +24,7 @@ fn seven_zeros(a: [u32; 7]) -> bool
 fn zero_ids(i: Ids) -> bool
     ensures { λ b. ⌜ b ≡ zeroIds i ⌝ }
 {
-    i.effective == 0 && i.login == 0 && i.program == 0
+    (i.effective == 0) & (i.login == 0) & (i.program == 0)
 }
 
 fn zero_signals(g: Signals) -> bool
@@ -32,25 +32,25 @@ fn zero_signals(g: Signals) -> bool
 {
     let reactions = g.reactions;
     let traps = g.traps;
-    seven_zeros(reactions) && g.pending == 0 && seven_zeros(traps)
+    seven_zeros(reactions) & (g.pending == 0) & seven_zeros(traps)
 }
 
 fn zero_rest(r: Rest) -> bool
     ensures { λ b. ⌜ b ≡ zeroRest r ⌝ }
 {
-    r.sleep == 0 && r.seconds == 0 && r.wake == 0 && r.left == 0
+    (r.sleep == 0) & (r.seconds == 0) & (r.wake == 0) & (r.left == 0)
 }
 
 pub(crate) fn zero_process(p: Process) -> bool
     ensures { λ b. ⌜ b ≡ zeroProcess p ⌝ }
 {
-    p.pid == 0
-        && zero_ids(p.user)
-        && zero_ids(p.group)
-        && p.priority == 0
-        && zero_signals(p.signals)
-        && p.alarm == 0
-        && zero_rest(p.rest)
+    (p.pid == 0)
+        & zero_ids(p.user)
+        & zero_ids(p.group)
+        & (p.priority == 0)
+        & zero_signals(p.signals)
+        & (p.alarm == 0)
+        & zero_rest(p.rest)
 }
 
 fn sleep_fits(r: Rest) -> bool
@@ -68,7 +68,7 @@ fn sleep_fits(r: Rest) -> bool
 fn wake_fits(r: Rest) -> bool
     ensures { λ b. ⌜ b ≡ wakeFits (r .wake) (r .left) ⌝ }
 {
-    r.wake <= 3 && (r.wake == 2 || r.left == 0)
+    (r.wake <= 3) & ((r.wake == 2) | (r.left == 0))
 }
 
 // Signal i + 1 is pending, or has no address.
@@ -92,26 +92,15 @@ fn is_addressed(pending: u8, traps: [u32; 7]) -> bool
 fn traps_fit(g: Signals) -> bool
     ensures { λ b. ⌜ b ≡ trapsFit (g .pending) (g .traps) ⌝ }
 {
-    if 128 <= g.pending {
-        return false;
-    }
-    if g.pending / 4 % 2 == 1 {
-        return false;
-    }
     let traps = g.traps;
-    is_addressed(g.pending, traps)
+    (g.pending < 128) & (g.pending / 4 % 2 != 1) & is_addressed(g.pending, traps)
 }
 
 fn reactions_fit(pid: u16, r: [u32; 7]) -> bool
     ensures { λ b. ⌜ b ≡ reactionsFit pid r ⌝ }
 {
-    if r[2] != 0 {
-        return false;
-    }
-    if pid != 1 {
-        return true;
-    }
-    r[0] == 1 && r[1] == 1 && r[3] == 1 && r[4] == 1 && r[5] == 1 && r[6] == 1
+    let ignored = (r[0] == 1) & (r[1] == 1) & (r[3] == 1) & (r[4] == 1) & (r[5] == 1) & (r[6] == 1);
+    (r[2] == 0) & ((pid != 1) | ignored)
 }
 
 // The rows of the process that wait are `waiting` in number.
@@ -130,10 +119,10 @@ pub(crate) fn sound_process(p: Process, waiting: usize) -> bool
     let g = p.signals;
     let reactions = g.reactions;
     sleep_fits(p.rest)
-        && wake_fits(p.rest)
-        && (p.rest.sleep == 0 || g.pending == 0)
-        && traps_fit(g)
-        && in_priority(p.priority)
-        && reactions_fit(p.pid, reactions)
-        && lock_fits(waiting, p.rest.sleep)
+        & wake_fits(p.rest)
+        & ((p.rest.sleep == 0) | (g.pending == 0))
+        & traps_fit(g)
+        & in_priority(p.priority)
+        & reactions_fit(p.pid, reactions)
+        & lock_fits(waiting, p.rest.sleep)
 }

@@ -10,14 +10,14 @@ ghost use Rattle.locks.specs.Lists.{all, isZero, keep, member};
 ghost use Rattle.locks.specs.Rows.{rowsOf, zeroRow};
 ghost use Rattle.locks.specs.Words.{Worded, fitRow, Told};
 ghost use Rattle.locks.specs.declared.rows.Row.{Row};
-ghost use Rattle.soundness.specs.Waiting.{Noted, meeting, Waiting, Homes};
+ghost use Rattle.soundness.specs.Waiting.{Noted, meeting, Waiting};
 
 // Only zeros stand after the first n bytes.
 fn ends_at(w: Words, n: usize) -> bool
     ensures { λ b. ⌜ ((bytes : List ℕ) → Worded bytes w → b ≡ all isZero (drop n bytes)) ⌝ }
 {
     if n < 8 {
-        return w.high == 0 && w.low >> (n * 8) == 0;
+        return (w.high == 0) & (w.low >> (n * 8) == 0);
     }
     if n < 16 {
         return w.high >> ((n - 8) * 8) == 0;
@@ -28,18 +28,9 @@ fn ends_at(w: Words, n: usize) -> bool
 fn zero_row(r: Row) -> bool
     ensures { λ b. ⌜ b ≡ zeroRow r ⌝ }
 {
-    if r.owner != 0 {
-        return false;
-    }
-    if r.shared {
-        return false;
-    }
-    if r.len != 0 {
-        return false;
-    }
     let bytes = r.bytes;
     let w = words_of(bytes);
-    ends_at(w, 0)
+    (r.owner == 0) & !r.shared & (r.len == 0) & ends_at(w, 0)
 }
 
 pub(crate) fn unused_rows(t: Table) -> bool
@@ -61,13 +52,7 @@ fn fit_row(r: Row, w: Words) -> bool
     requires { ⌜ Worded (r .bytes) w ⌝ }
     ensures { λ b. ⌜ b ≡ fitRow r ⌝ }
 {
-    if r.len < 1 {
-        return false;
-    }
-    if 16 < r.len {
-        return false;
-    }
-    ends_at(w, r.len as usize)
+    (1 <= r.len) & (r.len <= 16) & ends_at(w, r.len as usize)
 }
 
 // How row r stands to the i rows ahead of it: 2 if one is its twin, else 1 if it waits, else 0.
@@ -193,36 +178,15 @@ fn among(ns: [u16; 16], n: usize, pid: u16) -> bool
     false
 }
 
-// Each PID at the place of its last six bits; where two have the same, the later.
-fn homes_of(ns: [u16; 16], n: usize) -> [u16; 64]
-    requires { ⌜ n ≤ 16 ⌝ }
-    ensures { λ h. ⌜ Homes (take n ns) h ⌝ }
-{
-    let mut homes = [0u16; 64];
-    let mut i: usize = 0;
-    while i < n {
-        let pid = ns[i];
-        let k = (pid % 64) as usize;
-        homes[k] = pid;
-        i += 1;
-    }
-    homes
-}
-
-// Most owners are at home; the others are looked for.
+// Each owner is looked for.
 pub(crate) fn owners_live(owners: &[u16; 32], used: usize, ns: [u16; 16], n: usize) -> bool
     requires { ⌜ (used ≤ 32) × ((length (now owners) ≡ 32) × (n ≤ 16)) ⌝ }
     ensures { λ b. ⌜ b ≡ all (λ x. member x (take n ns)) (take used (now (owners .entry))) ⌝ }
 {
-    let homes = homes_of(ns, n);
     let mut i: usize = 0;
     while i < used {
-        let owner = owners[i];
-        let k = (owner % 64) as usize;
-        if owner == 0 || homes[k] != owner {
-            if !among(ns, n, owner) {
-                return false;
-            }
+        if !among(ns, n, owners[i]) {
+            return false;
         }
         i += 1;
     }

@@ -43,20 +43,14 @@ fn pids_fit(ns: [u16; 16], n: usize, next: u32) -> bool
         low = pid + 1;
         i += 1;
     }
-    low <= next && next <= 65536
+    (low <= next) & (next <= 65536)
 }
 
 // "Counts of processes and rows .. lie in the ranges above"
 fn counts_fit(live: usize, used: usize) -> bool
     ensures { λ b. ⌜ b ≡ (between 1 16 live && leb used 32) ⌝ }
 {
-    if live < 1 {
-        return false;
-    }
-    if 16 < live {
-        return false;
-    }
-    used <= 32
+    (1 <= live) & (live <= 16) & (used <= 32)
 }
 
 pub fn is_sound(s: State) -> bool

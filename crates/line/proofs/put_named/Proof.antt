@@ -7,18 +7,6 @@ use Rattle.line.specs.Line.{decimal}
 use Rattle.line.proofs.put_named.Statement.{statement}
 use Rattle.line.proofs.put_named.Tie as tie
 
-put-requires : tie.Need-put-requires
-put-requires c κs = search needs
-
-decimal-requires : tie.Need-decimal-requires
-decimal-requires c κs = search needs
-
-array-share-prefix-digits : tie.Need-array-share-prefix-digits
-array-share-prefix-digits c = search needs
-
-slice-aggregate-put : tie.Need-slice-aggregate-put
-slice-aggregate-put c = search needs
-
 put-requires-2 : tie.Need-put-requires-2
 put-requires-2 c κs =
     let d = c .before .before in
@@ -37,9 +25,9 @@ pub put-named-spec : {M : Type 1} → statement M
 put-named-spec =
     tie.close
     (tie.spec
-    put-requires
-    decimal-requires
-    array-share-prefix-digits
-    slice-aggregate-put
+    (λ c κs. search needs)
+    (λ c κs. search needs)
+    (λ c. search needs)
+    (λ c. search needs)
     put-requires-2
     returns)

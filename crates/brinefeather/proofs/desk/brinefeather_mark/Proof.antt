@@ -5,14 +5,8 @@ use Rattle.brinefeather.proofs.desk.brinefeather_mark.Tie as tie
 use mathlib.Core.Path.{_∙_, ap}
 use Rattle.brinefeather.specs.Desk.{markNumber}
 
-mark-requires : tie.Need-mark-requires
-mark-requires c κs = search needs
-
-mark-number-requires : tie.Need-mark-number-requires
-mark-number-requires c κs = search needs
-
 returns : tie.Need-returns
 returns c = c .mark-number .ensures ∙ ap markNumber (c .before .mark .ensures)
 
 pub brinefeather-mark-spec : {M : Type 1} → statement M
-brinefeather-mark-spec = tie.close (tie.spec mark-requires mark-number-requires returns)
+brinefeather-mark-spec = tie.close (tie.spec (λ c κs. search needs) (λ c κs. search needs) returns)

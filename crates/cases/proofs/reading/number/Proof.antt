@@ -16,49 +16,13 @@ Inv-loop line from base i₀ v₀ i v = v < 2 ^ 32
 abbrev μ-loop : tie.MeasureT-loop
 μ-loop line from base i₀ v₀ i v = length line - i
 
-skip-spaces-requires : tie.Need-skip-spaces-requires Inv-loop μ-loop
-skip-spaces-requires c κs = search needs
-
-loop-holds : tie.Need-loop-holds Inv-loop μ-loop
-loop-holds c = search needs
-
-shared-slice-read-digit : tie.Need-shared-slice-read-digit Inv-loop μ-loop
-shared-slice-read-digit c = search needs
-
-digit-requires : tie.Need-digit-requires Inv-loop μ-loop
-digit-requires c κs = search needs
-
-returns : tie.Need-returns Inv-loop μ-loop
-returns c = search needs
-
-cast-v : tie.Need-cast-v Inv-loop μ-loop
-cast-v c = search needs
-
 mul-v : tie.Need-mul-v Inv-loop μ-loop
 mul-v c = let h = wide _ _ (c .before .before .before .before .loop .inv) (c .before .before .before .before .before .before .before .pre) in
     record { fits = omega (arith, h) }
 
-cast-v-2 : tie.Need-cast-v-2 Inv-loop μ-loop
-cast-v-2 c = search needs
-
 add-v : tie.Need-add-v Inv-loop μ-loop
 add-v c = let h = wide _ _ (c .before .before .before .before .loop .inv) (c .before .before .before .before .before .before .before .pre) in
     record { fits = omega (arith, h) }
-
-cast-v-3 : tie.Need-cast-v-3 Inv-loop μ-loop
-cast-v-3 c = search needs
-
-add-i : tie.Need-add-i Inv-loop μ-loop
-add-i c = search needs
-
-loop-less : tie.Need-loop-less Inv-loop μ-loop
-loop-less c = search needs
-
-loop-again : tie.Need-loop-again Inv-loop μ-loop
-loop-again c = search needs
-
-returns-2 : tie.Need-returns-2 Inv-loop μ-loop
-returns-2 c = search needs
 
 pub number-spec : {M : Type 1} → statement M
 number-spec =
@@ -66,17 +30,17 @@ number-spec =
     (tie.spec
     Inv-loop
     μ-loop
-    skip-spaces-requires
-    loop-holds
-    shared-slice-read-digit
-    digit-requires
-    returns
-    cast-v
+    (λ c κs. search needs)
+    (λ c. search needs)
+    (λ c. search needs)
+    (λ c κs. search needs)
+    (λ c. search needs)
+    (λ c. search needs)
     mul-v
-    cast-v-2
+    (λ c. search needs)
     add-v
-    cast-v-3
-    add-i
-    loop-less
-    loop-again
-    returns-2)
+    (λ c. search needs)
+    (λ c. search needs)
+    (λ c. search needs)
+    (λ c. search needs)
+    (λ c. search needs))

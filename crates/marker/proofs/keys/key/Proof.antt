@@ -9,37 +9,13 @@ use Rattle.papers.proofs.Files.{paper-count}
 use Rattle.marker.specs.Key.{keyPlaces, keyOf, keyed}
 use Rattle.marker.specs.declared.keys.Keyed.the-variants.{Written}
 
-paper-requires : tie.Need-paper-requires
-paper-requires c κs = search needs
-
-enum-known-r : tie.Need-enum-known-r
-enum-known-r c = search needs
-
-enum-known-n : tie.Need-enum-known-n
-enum-known-n c = search needs
-
-cast-length : tie.Need-cast-length
-cast-length c = search needs
-
-mul-length : tie.Need-mul-length
-mul-length c = search needs
-
-add-length : tie.Need-add-length
-add-length c = search needs
-
 returns : tie.Need-returns
 unfolding keyed
 returns c = rw (sym (c .before .before .before .before .paper .ensures) ∙ c .before .before .n .given .1, lt-ltb _ _ (c .if1 .taken))
 
-put-key-requires : tie.Need-put-key-requires
-put-key-requires c κs = search needs
-
 returns-2 : tie.Need-returns-2
 unfolding keyed
 returns-2 c = rw (sym (c .before .before .before .paper .ensures) ∙ c .before .r .given .1)
-
-same-length : tie.Need-same-length
-same-length c = search needs
 
 returns-3 : tie.Need-returns-3
 unfolding keyed keyOf keyPlaces
@@ -52,14 +28,14 @@ pub key-spec : {M : Type 1} → statement M
 key-spec =
     tie.close
     (tie.spec
-    paper-requires
-    enum-known-r
-    enum-known-n
-    cast-length
-    mul-length
-    add-length
+    (λ c κs. search needs)
+    (λ c. search needs)
+    (λ c. search needs)
+    (λ c. search needs)
+    (λ c. search needs)
+    (λ c. search needs)
     returns
-    put-key-requires
+    (λ c κs. search needs)
     returns-2
-    same-length
+    (λ c. search needs)
     returns-3)

@@ -3,44 +3,10 @@ use borrow.Author.Needs.{needs}
 use Rattle.marker.proofs.marks.mark.Statement.{statement}
 use Rattle.marker.proofs.marks.mark.Tie as tie
 use mathlib.Core.Path.{sym, _∙_}
-use Rattle.rules.proofs.States.{sound-stays}
 use Rattle.papers.proofs.Files.{paper-count, sheet-count}
 use Rattle.marker.specs.Key.{keyPlaces}
 use Rattle.marker.specs.Mark.{marked}
 use Rattle.marker.proofs.Places.{right-least}
-
-paper-requires : tie.Need-paper-requires
-paper-requires c κs = search needs
-
-enum-known-r : tie.Need-enum-known-r
-enum-known-r c = search needs
-
-enum-known-total : tie.Need-enum-known-total
-enum-known-total c = search needs
-
-sheet-requires : tie.Need-sheet-requires
-sheet-requires c κs = search needs
-
-enum-known-r-2 : tie.Need-enum-known-r-2
-enum-known-r-2 c = search needs
-
-enum-known-answers : tie.Need-enum-known-answers
-enum-known-answers c = search needs
-
-fresh-requires : tie.Need-fresh-requires
-fresh-requires c κs = search needs
-
-lesser-requires : tie.Need-lesser-requires
-lesser-requires c κs = search needs
-
-right-places-requires : tie.Need-right-places-requires
-right-places-requires c κs = rw (c .before .fresh .ensures) (sound-stays .first)
-
-above-requires : tie.Need-above-requires
-above-requires c κs = search needs
-
-above-requires-2 : tie.Need-above-requires-2
-above-requires-2 c κs = search needs
 
 returns : tie.Need-returns
 unfolding marked
@@ -53,9 +19,9 @@ returns-2 c = rw (← c .before .before .before .before .before .before .before 
 returns-3 : tie.Need-returns-3
 unfolding marked keyPlaces
 returns-3 c =
-    let a = c .before .before .before .before .before .before .before .before .before .before .before .before .before .before .before .args in
-    let e = sym (c .before .before .before .before .before .before .before .before .before .before .before .before .paper .ensures) ∙ c .before .before .before .before .before .before .before .before .before .before .total .given .1 in
-    let f = sym (c .before .before .before .before .before .before .before .before .sheet .ensures) ∙ c .before .before .before .before .before .before .answers .given .1 in
+    let a = c .before .before .before .before .before .before .before .before .before .before .before .before .before .before .args in
+    let e = sym (c .before .before .before .before .before .before .before .before .before .before .before .paper .ensures) ∙ c .before .before .before .before .before .before .before .before .before .total .given .1 in
+    let f = sym (c .before .before .before .before .before .before .before .sheet .ensures) ∙ c .before .before .before .before .before .answers .given .1 in
     rw (
       e,
       f,
@@ -63,7 +29,6 @@ returns-3 c =
       ← sheet-count (a .s .now) _ f,
       right-least,
       c .before .before .right-places .ensures,
-      c .before .before .before .before .fresh .ensures,
       c .before .before .before .lesser .ensures,
       c .before .above .ensures,
       c .above2 .ensures,
@@ -73,17 +38,16 @@ pub mark-spec : {M : Type 1} → statement M
 mark-spec =
     tie.close
     (tie.spec
-    paper-requires
-    enum-known-r
-    enum-known-total
-    sheet-requires
-    enum-known-r-2
-    enum-known-answers
-    fresh-requires
-    lesser-requires
-    right-places-requires
-    above-requires
-    above-requires-2
+    (λ c κs. search needs)
+    (λ c. search needs)
+    (λ c. search needs)
+    (λ c κs. search needs)
+    (λ c. search needs)
+    (λ c. search needs)
+    (λ c κs. search needs)
+    (λ c κs. search needs)
+    (λ c κs. search needs)
+    (λ c κs. search needs)
     returns
     returns-2
     returns-3)

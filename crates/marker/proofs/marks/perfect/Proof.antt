@@ -3,17 +3,8 @@ use borrow.Author.Needs.{needs}
 use Rattle.marker.proofs.marks.perfect.Statement.{statement}
 use Rattle.marker.proofs.marks.perfect.Tie as tie
 
-enum-told : tie.Need-enum-told
-enum-told c = search needs
-
-enum-known-m : tie.Need-enum-known-m
-enum-known-m c = search needs
-
-returns : tie.Need-returns
-returns c = search needs
-
 returns-2 : tie.Need-returns-2
 returns-2 c = rw (c .before .m .given .1)
 
 pub perfect-spec : {M : Type 1} → statement M
-perfect-spec = tie.close (tie.spec enum-told enum-known-m returns returns-2)
+perfect-spec = tie.close (tie.spec (λ c. search needs) (λ c. search needs) (λ c. search needs) returns-2)

@@ -1,101 +1,73 @@
 -- `marker::marks::right_places` meets its contract. Assumes nothing.
 use borrow.Author.Needs.{needs}
-use Rattle.papers.specs.Bytes.{sixteensFrom}
 use Rattle.marker.proofs.marks.right_places.Statement.{statement}
 use Rattle.marker.proofs.marks.right_places.Tie as tie
 use Prim.Native.Nat.{_+_, _-_, _*_, _≤_}
-use mathlib.Core.Path.{_≡_, sym, _∙_}
-use mathlib.Core.Bool.{true}
+use mathlib.Core.Path.{_≡_, refl, sym, _∙_, ap}
+use mathlib.Core.Bool.{cond}
+use mathlib.Core.Logic.{⊎-elim}
 use mathlib.Core.List.{map}
 use native.Mathlib.Nat.{zero-add, add-zero}
 use native.Mathlib.Omega.{arith}
-use lib.ListN.{length, take}
-use Rattle.rules.specs.Sound.{sound}
-use Rattle.rules.specs.Play.{answersFrom, stateFrom}
+use lib.ListN.{length}
+use Rattle.rules.specs.State.{laid, fresh}
+use Rattle.rules.specs.Play.{answersFrom}
+use Rattle.turns.specs.Turn.{Holds, stateIn}
+use Rattle.papers.specs.Bytes.{sixteensFrom}
 use Rattle.papers.specs.Events.{eventsFrom}
 use Rattle.papers.specs.Answers.{answerBytes}
 use Rattle.marker.specs.Mark.{rightPlaces}
-use Rattle.papers.proofs.Runs.{sixteens-count}
-use Rattle.marker.proofs.Places.{answers-count, right-most, right-parts}
-use Rattle.marker.proofs.Turns.{left, left-more, sheet-more, played}
+use Rattle.marker.proofs.Turns.{left, left-played, sheet-one}
 
 -- what is counted, and what is left of the two lists
 abbrev Inv-loop : tie.InvT-loop
-Inv-loop s₀ p sheet n right₀ i₀ s right i =
-    (i ≤ n) × (right ≤ i) × (sound s ≡ true) × (rightPlaces (left s₀ p n 0) (sixteensFrom sheet 6 n) ≡ right + rightPlaces (left s p n i) (sixteensFrom sheet (6 + 16 * i) (n - i)))
+Inv-loop p sheet n m₀ t₀ right₀ i₀ m t right i =
+    (i ≤ n) × (right ≤ i) × Holds m t × (rightPlaces (left (laid fresh) p n 0) (sixteensFrom sheet 6 n) ≡ right + rightPlaces (left (stateIn m t) p n i) (sixteensFrom sheet (6 + 16 * i) (n - i)))
 
 abbrev μ-loop : tie.MeasureT-loop
-μ-loop s₀ p sheet n right₀ i₀ s right i = n - i
+μ-loop p sheet n m₀ t₀ right₀ i₀ m t right i = n - i
 
--- a part has no more places right than it has
-most : (c : tie.After-right-few Inv-loop μ-loop) → c .right-few .result ≤ c .before .before .before .before .lesser .result
-most c =
-    let o = c .before .before .before .before .before .before .before .before .before in
-    let x = map answerBytes (take (c .before .before .before .before .lesser .result) (c .before .before .play .result .answers)) in
-    let y = sixteensFrom (o .args .sheet .now) (6 + 16 * c .before .before .before .before .before .before .loop .i) (c .before .before .before .before .lesser .result) in
-    let k = right-most x y in
-    let n : length y ≡ c .before .before .before .before .lesser .result = sixteens-count (o .args .sheet .now) (6 + 16 * c .before .before .before .before .before .before .loop .i) (c .before .before .before .before .lesser .result) in
-    omega (arith, k, n, c .right-few .ensures)
+-- in a turn: the place at hand, and what is left after it
+turn : (c : tie.After-stands-at Inv-loop μ-loop)
+    → (let o = c .before .before .before .before .before .before .before .before .before .before .before .before .before in let l = c .before .before .before .before .before .before .before .before .loop in let u = c .before .before .turn in
+    rightPlaces (left (stateIn (l .m) (l .t)) (o .args .p .now) (o .args .n) (l .i)) (sixteensFrom (o .args .sheet .now) (6 + 16 * l .i) (o .args .n - l .i))
+    ≡ cond (c .stands-at .result) 1 0 + rightPlaces (left (stateIn (u .last .1 .0) (u .last .1 .1 .0)) (o .args .p .now) (o .args .n) (l .i + 1)) (sixteensFrom (o .args .sheet .now) (6 + 16 * (l .i + 1)) (o .args .n - (l .i + 1))))
+turn c =
+    let o = c .before .before .before .before .before .before .before .before .before .before .before .before .before in
+    let l = c .before .before .before .before .before .before .before .before .loop in
+    let u = c .before .before .turn in
+    let t = c .before .before .before .before .before .before .before .loop-test .taken in
+    rw (left-played (o .args .p .now) (o .args .n) (l .i) t (c .before .before .before .event .ensures) (u .ensures), sheet-one (o .args .sheet .now) (o .args .n) (l .i) t, c .stands-at .ensures)
+
+begin-requires : tie.Need-begin-requires Inv-loop μ-loop
+begin-requires c κs = refl
 
 loop-holds : tie.Need-loop-holds Inv-loop μ-loop
 loop-holds c =
-    let z : c .before .before .args .n - 0 ≡ c .before .before .args .n = omega arith in
-    (search needs, search needs, c .before .before .pre, rw (zero-add, z))
+    let a = c .before .before .before .before .args in
+    let z : a .n - 0 ≡ a .n = omega arith in
+    (search needs, search needs, c .begin .ensures .0, rw (zero-add, z) (ap (λ s. rightPlaces (map answerBytes (answersFrom s (eventsFrom (a .p .now) 12 (a .n)))) (sixteensFrom (a .sheet .now) 6 (a .n))) (sym (c .begin .ensures .1))))
 
-sub-lesser : tie.Need-sub-lesser Inv-loop μ-loop
-sub-lesser c = search needs
+turn-requires : tie.Need-turn-requires Inv-loop μ-loop
+turn-requires c κs = (c .before .before .before .before .before .loop .inv .2, refl)
 
-lesser-requires : tie.Need-lesser-requires Inv-loop μ-loop
-lesser-requires c κs = search needs
-
-events-requires : tie.Need-events-requires Inv-loop μ-loop
-events-requires c κs = search needs
-
-cast-play : tie.Need-cast-play Inv-loop μ-loop
-cast-play c = search needs
-
-play-requires : tie.Need-play-requires Inv-loop μ-loop
-play-requires c κs = search needs
-
-right-few-requires : tie.Need-right-few-requires Inv-loop μ-loop
-right-few-requires c κs = search needs
-
-add-right : tie.Need-add-right Inv-loop μ-loop
-add-right c = let b = most c in let t = c .before .before .before .before .before .loop-test .taken in omega (arith, b, c .before .before .before .before .before .before .loop .inv .1, c .before .before .before .before .lesser .ensures, t)
-
-add-i : tie.Need-add-i Inv-loop μ-loop
-add-i c = search needs
-
-loop-less : tie.Need-loop-less Inv-loop μ-loop
-loop-less c = search needs
+stands-at-requires : tie.Need-stands-at-requires Inv-loop μ-loop
+stands-at-requires c κs = ap length (c .before .turn .ensures .answer)
 
 loop-again : tie.Need-loop-again Inv-loop μ-loop
 loop-again c =
-    let o = c .before .before .before .before .before .before .before .before .before .before in
-    let l = c .before .before .before .before .before .before .before .loop in
-    let r = c .before .before .before .play in
-    let m = c .before .before .before .before .before .lesser .result in
-    let p = o .args .p .now in
-    let s = o .args .sheet .now in
-    let n = o .args .n in
-    let t = c .before .before .before .before .before .before .loop-test .taken in
-    let w = played (l .s) p (l .i) m (c .before .before .before .before .events .result) (r .result .answers) (r .result .state) (c .before .before .before .before .events .ensures) (r .ensures .0) (r .ensures .1) in
-    let g : l .i + m ≤ n = omega (arith, c .before .before .before .before .before .lesser .ensures, t) in
-    let k = answers-count (l .s) p (12 + 20 * l .i) m ∙ sym (sixteens-count s (6 + 16 * l .i) m) in
-    let f : rightPlaces (left (l .s) p n (l .i)) (sixteensFrom s (6 + 16 * l .i) (n - l .i)) ≡ c .before .right-few .result + rightPlaces (left (r .result .state) p n (l .i + m)) (sixteensFrom s (6 + 16 * (l .i + m)) (n - (l .i + m))) =
-    rw (left-more (l .s) p n (l .i) m g, sheet-more s n (l .i) m g, c .before .right-few .ensures, w .0, w .1) (right-parts (map answerBytes (answersFrom (l .s) (eventsFrom p (12 + 20 * l .i) m))) (sixteensFrom s (6 + 16 * l .i) m) (left (stateFrom (l .s) (eventsFrom p (12 + 20 * l .i) m)) p n (l .i + m)) (sixteensFrom s (6 + 16 * (l .i + m)) (n - (l .i + m))) k) in
-    let b = most (c .before) in
-    let e = rw f at (l .inv .3) in (
+    let l = c .before .before .before .before .before .before .before .before .before .loop in
+    let e = l .inv .3 ∙ ap (λ x. l .right + x) (turn (c .before)) in (
       search needs,
-      omega (arith, b, l .inv .1),
-      r .ensures .2,
-      omega (arith, e),
+      ⊎-elim (λ w. omega arith) (λ w. omega arith) (c .if1 .came),
+      c .before .before .before .turn .ensures .holds,
+      ⊎-elim (λ w. let t = rw (w .0 .taken) at e in omega arith) (λ w. let t = rw (w .0 .left) at e in omega arith) (c .if1 .came),
     )
 
 returns : tie.Need-returns Inv-loop μ-loop
 returns c =
     let l = c .before .loop in
-    let n = c .before .before .before .before .args .n in
+    let n = c .before .before .before .before .before .before .args .n in
     let e : n - l .i ≡ 0 = omega arith in
     let z : n - 0 ≡ n = omega arith in
     sym (rw z at (l .inv .3) ∙ rw (e, add-zero))
@@ -106,15 +78,13 @@ right-places-spec =
     (tie.spec
     Inv-loop
     μ-loop
+    begin-requires
     loop-holds
-    sub-lesser
-    lesser-requires
-    events-requires
-    cast-play
-    play-requires
-    right-few-requires
-    add-right
-    add-i
-    loop-less
+    (λ c κs. search needs)
+    turn-requires
+    stands-at-requires
+    (λ c. search needs)
+    (λ c. search needs)
+    (λ c. search needs)
     loop-again
     returns)

@@ -3,17 +3,8 @@ use borrow.Author.Needs.{needs}
 use Rattle.papers.proofs.layout.first_of.Statement.{statement}
 use Rattle.papers.proofs.layout.first_of.Tie as tie
 
-enum-told : tie.Need-enum-told
-enum-told c = search needs
-
-enum-known-ahead : tie.Need-enum-known-ahead
-enum-known-ahead c = search needs
-
-returns : tie.Need-returns
-returns c = search needs
-
 returns-2 : tie.Need-returns-2
 returns-2 c = rw (c .before .ahead .given .1)
 
 pub first-of-spec : {M : Type 1} → statement M
-first-of-spec = tie.close (tie.spec enum-told enum-known-ahead returns returns-2)
+first-of-spec = tie.close (tie.spec (λ c. search needs) (λ c. search needs) (λ c. search needs) returns-2)

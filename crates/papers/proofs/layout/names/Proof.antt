@@ -23,43 +23,13 @@ turn c =
     let a = c .before .before .before .before .before .args in
     rw (c .read-field .ensures, c .before .before .before .number .ensures) (l .inv .1 ∙ names-at (a .p .now) (a .n) (l .i) (omega arith))
 
-number-requires : tie.Need-number-requires Inv-loop μ-loop
-number-requires c κs = search needs
-
-cast-most : tie.Need-cast-most Inv-loop μ-loop
-cast-most c = search needs
-
 loop-holds : tie.Need-loop-holds Inv-loop μ-loop
 loop-holds c =
     let z : c .before .before .args .n - 0 ≡ c .before .before .args .n = omega arith in
     (search needs, rw z)
 
-mul-read-field : tie.Need-mul-read-field Inv-loop μ-loop
-mul-read-field c = search needs
-
-add-read-field : tie.Need-add-read-field Inv-loop μ-loop
-add-read-field c = search needs
-
-add-read-field-2 : tie.Need-add-read-field-2 Inv-loop μ-loop
-add-read-field-2 c = search needs
-
-read-field-requires : tie.Need-read-field-requires Inv-loop μ-loop
-read-field-requires c κs = search needs
-
-enum-known-name : tie.Need-enum-known-name Inv-loop μ-loop
-enum-known-name c = search needs
-
 returns : tie.Need-returns Inv-loop μ-loop
 returns c = sym (rw (c .before .name .given .1) at (turn (c .before .before .before)))
-
-enum-told : tie.Need-enum-told Inv-loop μ-loop
-enum-told c = search needs
-
-add-i : tie.Need-add-i Inv-loop μ-loop
-add-i c = search needs
-
-loop-less : tie.Need-loop-less Inv-loop μ-loop
-loop-less c = search needs
 
 loop-again : tie.Need-loop-again Inv-loop μ-loop
 loop-again c = (search needs, rw (c .enum-told .given .1) at (turn (c .before .before)))
@@ -77,17 +47,17 @@ names-spec =
     (tie.spec
     Inv-loop
     μ-loop
-    number-requires
-    cast-most
+    (λ c κs. search needs)
+    (λ c. search needs)
     loop-holds
-    mul-read-field
-    add-read-field
-    add-read-field-2
-    read-field-requires
-    enum-known-name
+    (λ c. search needs)
+    (λ c. search needs)
+    (λ c. search needs)
+    (λ c κs. search needs)
+    (λ c. search needs)
     returns
-    enum-told
-    add-i
-    loop-less
+    (λ c. search needs)
+    (λ c. search needs)
+    (λ c. search needs)
     loop-again
     returns-2)

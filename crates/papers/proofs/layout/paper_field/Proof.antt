@@ -10,24 +10,9 @@ use Rattle.papers.specs.Fields.{headerRules, nameRules, paperField}
 use Rattle.papers.proofs.Fields.{first-parts}
 use Rattle.papers.proofs.Files.{header-keeps}
 
-cast-t6 : tie.Need-cast-t6
-cast-t6 c = search needs
-
 returns : tie.Need-returns
 unfolding paperField
 returns c = rw (lt-ltb _ _ (c .if1 .taken))
-
-header-requires : tie.Need-header-requires
-header-requires c κs = search needs
-
-enum-known-at : tie.Need-enum-known-at
-enum-known-at c = search needs
-
-enum-told : tie.Need-enum-told
-enum-told c = search needs
-
-number-requires : tie.Need-number-requires
-number-requires c κs = search needs
 
 names-requires : tie.Need-names-requires
 names-requires c κs =
@@ -50,12 +35,12 @@ pub paper-field-spec : {M : Type 1} → statement M
 paper-field-spec =
     tie.close
     (tie.spec
-    cast-t6
+    (λ c. search needs)
     returns
-    header-requires
-    enum-known-at
-    enum-told
-    number-requires
+    (λ c κs. search needs)
+    (λ c. search needs)
+    (λ c. search needs)
+    (λ c κs. search needs)
     names-requires
     returns-2
     returns-3)

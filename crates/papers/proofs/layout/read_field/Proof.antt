@@ -5,12 +5,6 @@ use Rattle.papers.proofs.layout.read_field.Tie as tie
 use Rattle.papers.specs.Layout.{field}
 use Rattle.papers.specs.Fields.{tested}
 
-number-requires : tie.Need-number-requires
-number-requires c κs = search needs
-
-cast-x : tie.Need-cast-x
-cast-x c = search needs
-
 returns : tie.Need-returns
 unfolding tested field
 returns c = rw (← c .before .number .ensures, c .if1 .taken)
@@ -20,4 +14,4 @@ unfolding tested field
 returns-2 c = rw (← c .before .number .ensures, c .if1 .left)
 
 pub read-field-spec : {M : Type 1} → statement M
-read-field-spec = tie.close (tie.spec number-requires cast-x returns returns-2)
+read-field-spec = tie.close (tie.spec (λ c κs. search needs) (λ c. search needs) returns returns-2)

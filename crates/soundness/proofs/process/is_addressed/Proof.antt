@@ -17,20 +17,8 @@ abbrev μ-loop : tie.MeasureT-loop
 loop-holds : tie.Need-loop-holds Inv-loop μ-loop
 loop-holds c = trapping _ _ 7 (search needs)
 
-mul-if2 : tie.Need-mul-if2 Inv-loop μ-loop
-mul-if2 c = search needs
-
-array-read-if2 : tie.Need-array-read-if2 Inv-loop μ-loop
-array-read-if2 c = search needs
-
 returns : tie.Need-returns Inv-loop μ-loop
 returns c = sym (trap-fails (c .before .before .before .loop .inv) (c .before .before .loop-test .taken) (rw (ne-eqb _ _ (c .before .if1 .taken)) (ne-eqb _ _ (c .if2 .taken))))
-
-add-i : tie.Need-add-i Inv-loop μ-loop
-add-i c = search needs
-
-loop-less : tie.Need-loop-less Inv-loop μ-loop
-loop-less c = search needs
 
 loop-again : tie.Need-loop-again Inv-loop μ-loop
 loop-again c =
@@ -47,10 +35,10 @@ is-addressed-spec =
     Inv-loop
     μ-loop
     loop-holds
-    mul-if2
-    array-read-if2
+    (λ c. search needs)
+    (λ c. search needs)
     returns
-    add-i
-    loop-less
+    (λ c. search needs)
+    (λ c. search needs)
     loop-again
     returns-2)

@@ -24,42 +24,12 @@ abbrev μ-loop : tie.MeasureT-loop
 loop-holds : tie.Need-loop-holds Inv-loop μ-loop
 loop-holds c = (search needs, λ rows _ _. against-none rows _)
 
-mul-if1 : tie.Need-mul-if1 Inv-loop μ-loop
-mul-if1 c = search needs
-
-element-copy-out-if1 : tie.Need-element-copy-out-if1 Inv-loop μ-loop
-element-copy-out-if1 c = search needs
-
-mul-if2 : tie.Need-mul-if2 Inv-loop μ-loop
-mul-if2 c = search needs
-
-element-copy-out-if2 : tie.Need-element-copy-out-if2 Inv-loop μ-loop
-element-copy-out-if2 c = search needs
-
-element-copy-out-if3 : tie.Need-element-copy-out-if3 Inv-loop μ-loop
-element-copy-out-if3 c = search needs
-
-mul-if4 : tie.Need-mul-if4 Inv-loop μ-loop
-mul-if4 c = search needs
-
-element-copy-out-if4 : tie.Need-element-copy-out-if4 Inv-loop μ-loop
-element-copy-out-if4 c = search needs
-
 returns : tie.Need-returns Inv-loop μ-loop
 returns c rows m t =
     let f = c .before .before .before in
     let e = f .before .before .before in
     let d = e .before .before .before in
     against-twin t m (d .before .before .before .loop-test .taken) (d .if1 .taken) (eqb-true _ _ (e .if2 .taken)) (eqb-true _ _ (f .if3 .taken)) (c .if4 .taken)
-
-element-copy-out-if6 : tie.Need-element-copy-out-if6 Inv-loop μ-loop
-element-copy-out-if6 c = search needs
-
-add-a : tie.Need-add-a Inv-loop μ-loop
-add-a c = search needs
-
-loop-less : tie.Need-loop-less Inv-loop μ-loop
-loop-less c = search needs
 
 loop-again : tie.Need-loop-again Inv-loop μ-loop
 loop-again c =
@@ -93,16 +63,16 @@ meets-spec =
     Inv-loop
     μ-loop
     loop-holds
-    mul-if1
-    element-copy-out-if1
-    mul-if2
-    element-copy-out-if2
-    element-copy-out-if3
-    mul-if4
-    element-copy-out-if4
+    (λ c. search needs)
+    (λ c. search needs)
+    (λ c. search needs)
+    (λ c. search needs)
+    (λ c. search needs)
+    (λ c. search needs)
+    (λ c. search needs)
     returns
-    element-copy-out-if6
-    add-a
-    loop-less
+    (λ c. search needs)
+    (λ c. search needs)
+    (λ c. search needs)
     loop-again
     returns-2)

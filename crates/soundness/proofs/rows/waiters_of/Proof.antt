@@ -21,20 +21,8 @@ abbrev μ-loop : tie.MeasureT-loop
 loop-holds : tie.Need-loop-holds Inv-loop μ-loop
 loop-holds c = watched-none _ _ (simp length-map at (c .good .0 .1 .1 .0 .1 .0 .1)) (c .pre)
 
-mul-r : tie.Need-mul-r Inv-loop μ-loop
-mul-r c = search needs
-
-element-copy-out-r : tie.Need-element-copy-out-r Inv-loop μ-loop
-element-copy-out-r c = search needs
-
-words-of-requires : tie.Need-words-of-requires Inv-loop μ-loop
-words-of-requires c κs = search needs
-
 fit-row-requires : tie.Need-fit-row-requires Inv-loop μ-loop
 fit-row-requires c κs = c .words-of .ensures
-
-found-requires : tie.Need-found-requires Inv-loop μ-loop
-found-requires c κs = search needs
 
 returns : tie.Need-returns Inv-loop μ-loop
 unfolding rowsOf
@@ -43,20 +31,11 @@ returns c =
     let o = e .before .before .before .before .before in
     rw (c .found .ensures) (refused _ (not-fit (o .before .loop .inv) (o .loop-test .taken) (sym (e .before .fit-row .ensures) ∙ not-true _ (e .if1 .taken))))
 
-array-read-first : tie.Need-array-read-first Inv-loop μ-loop
-array-read-first c = search needs
-
 cast-first : tie.Need-cast-first Inv-loop μ-loop
 cast-first c = let h = byte-at (c .before .before .words-of .ensures) 0 in record { fits = omega (arith, h) }
 
 array-read-if2 : tie.Need-array-read-if2 Inv-loop μ-loop
 array-read-if2 c = byte-at (c .before .before .words-of .ensures) 0
-
-meets-requires : tie.Need-meets-requires Inv-loop μ-loop
-meets-requires c κs = search needs
-
-found-requires-2 : tie.Need-found-requires-2 Inv-loop μ-loop
-found-requires-2 c κs = search needs
 
 returns-2 : tie.Need-returns-2 Inv-loop μ-loop
 unfolding rowsOf
@@ -68,47 +47,8 @@ returns-2 c =
     let t = told (e .before .fit-row .ensures) (e .if1 .left) (e .before .before .words-of .ensures) in
     rw (c .found2 .ensures) (refused _ (twin-found p (o .loop-test .taken) (met-twin _ _ (h .before .meets .ensures _ (p .noted) t) (h .if3 .taken))))
 
-mul-owners : tie.Need-mul-owners Inv-loop μ-loop
-mul-owners c = search needs
-
-array-write-owners : tie.Need-array-write-owners Inv-loop μ-loop
-array-write-owners c = search needs
-
-add-count : tie.Need-add-count Inv-loop μ-loop
-add-count c = search needs
-
 array-write-seen : tie.Need-array-write-seen Inv-loop μ-loop
 array-write-seen c = byte-at (c .before .before .before .words-of .ensures) 0
-
-mul-lows : tie.Need-mul-lows Inv-loop μ-loop
-mul-lows c = search needs
-
-array-write-lows : tie.Need-array-write-lows Inv-loop μ-loop
-array-write-lows c = search needs
-
-mul-highs : tie.Need-mul-highs Inv-loop μ-loop
-mul-highs c = search needs
-
-array-write-highs : tie.Need-array-write-highs Inv-loop μ-loop
-array-write-highs c = search needs
-
-array-write-lens : tie.Need-array-write-lens Inv-loop μ-loop
-array-write-lens c = search needs
-
-array-write-shared : tie.Need-array-write-shared Inv-loop μ-loop
-array-write-shared c = search needs
-
-mul-all : tie.Need-mul-all Inv-loop μ-loop
-mul-all c = search needs
-
-array-write-all : tie.Need-array-write-all Inv-loop μ-loop
-array-write-all c = search needs
-
-add-i : tie.Need-add-i Inv-loop μ-loop
-add-i c = search needs
-
-loop-less : tie.Need-loop-less Inv-loop μ-loop
-loop-less c = search needs
 
 loop-again : tie.Need-loop-again Inv-loop μ-loop
 loop-again c =
@@ -125,9 +65,6 @@ loop-again c =
     (λ w. rw (w .1, w .2) (watched-holds p l t m (new-first p l (t .fit) m (w .0 .left)))))
     (c .if2 .came)
 
-found-requires-3 : tie.Need-found-requires-3 Inv-loop μ-loop
-found-requires-3 c κs = search needs
-
 returns-3 : tie.Need-returns-3 Inv-loop μ-loop
 unfolding rowsOf
 returns-3 c = rw (c .found3 .ensures) (watched-all (c .before .before .loop .inv) (c .before .loop-test .left))
@@ -139,32 +76,32 @@ waiters-of-spec =
     Inv-loop
     μ-loop
     loop-holds
-    mul-r
-    element-copy-out-r
-    words-of-requires
+    (λ c. search needs)
+    (λ c. search needs)
+    (λ c κs. search needs)
     fit-row-requires
-    found-requires
+    (λ c κs. search needs)
     returns
-    array-read-first
+    (λ c. search needs)
     cast-first
     array-read-if2
-    meets-requires
-    found-requires-2
+    (λ c κs. search needs)
+    (λ c κs. search needs)
     returns-2
-    mul-owners
-    array-write-owners
-    add-count
+    (λ c. search needs)
+    (λ c. search needs)
+    (λ c. search needs)
     array-write-seen
-    mul-lows
-    array-write-lows
-    mul-highs
-    array-write-highs
-    array-write-lens
-    array-write-shared
-    mul-all
-    array-write-all
-    add-i
-    loop-less
+    (λ c. search needs)
+    (λ c. search needs)
+    (λ c. search needs)
+    (λ c. search needs)
+    (λ c. search needs)
+    (λ c. search needs)
+    (λ c. search needs)
+    (λ c. search needs)
+    (λ c. search needs)
+    (λ c. search needs)
     loop-again
-    found-requires-3
+    (λ c κs. search needs)
     returns-3)

@@ -30,23 +30,14 @@ owned c =
     let n : length (s .table .rows) ≡ 32 = simp length-map at (c .before .before .before .before .before .before .before .before .before .before .before .before .before .before .before .before .good .0 .1 .1 .1 .1 .0 .1 .1 .0 .1 .0 .1) in
     rw (← c .before .before .before .before .before .before .before .before .before .before .before .before .before .pids-of .ensures) (c .owners-live .ensures ∙ owners-told (s .table) (take (s .live) (c .before .before .before .before .before .before .before .before .before .before .before .before .before .pids-of .result)) _ n (ranges (c .before .before .before .before .before .before .before .before .before .before .before .before .before .before) .1) (w .ensures .everyone (not-false _ (c .before .before .before .before .if4 .left))))
 
-counts-fit-requires : tie.Need-counts-fit-requires Inv-loop μ-loop
-counts-fit-requires c κs = search needs
-
 returns : tie.Need-returns Inv-loop μ-loop
 returns c = unsound _ (λ p. no (sym (c .before .counts-fit .ensures) ∙ not-true _ (c .if1 .taken)) (p .counts))
-
-pids-of-requires : tie.Need-pids-of-requires Inv-loop μ-loop
-pids-of-requires c κs = search needs
 
 pids-fit-requires : tie.Need-pids-fit-requires Inv-loop μ-loop
 pids-fit-requires c κs = ranges (c .before) .0
 
 returns-2 : tie.Need-returns-2 Inv-loop μ-loop
 returns-2 c = unsound _ (λ p. no (sym (c .before .pids-fit .ensures) ∙ not-true _ (c .if2 .taken)) (rw (c .before .before .pids-of .ensures) (p .pids-fit)))
-
-unused-rows-requires : tie.Need-unused-rows-requires Inv-loop μ-loop
-unused-rows-requires c κs = search needs
 
 returns-3 : tie.Need-returns-3 Inv-loop μ-loop
 returns-3 c = unsound _ (λ p. no (sym (c .before .unused-rows .ensures) ∙ not-true _ (c .if3 .taken)) (p .zero-rows))
@@ -66,36 +57,12 @@ returns-5 c = unsound _ (λ p. no (sym (owned (c .before)) ∙ not-true _ (c .if
 loop-holds : tie.Need-loop-holds Inv-loop μ-loop
 loop-holds c = placed-none _ (simp length-map at (c .before .before .before .before .before .before .before .before .before .before .before .before .before .before .before .before .before .good .0 .1 .1 .0 .1 .0 .1)) (ranges (c .before .before .before .before .before .before .before .before .before .before .before .before .before .before .before) .0)
 
-mul-p : tie.Need-mul-p Inv-loop μ-loop
-mul-p c = search needs
-
-element-copy-out-p : tie.Need-element-copy-out-p Inv-loop μ-loop
-element-copy-out-p c = search needs
-
-rows-of-requires : tie.Need-rows-of-requires Inv-loop μ-loop
-rows-of-requires c κs = search needs
-
-cast-sound-process : tie.Need-cast-sound-process Inv-loop μ-loop
-cast-sound-process c = search needs
-
-sound-process-requires : tie.Need-sound-process-requires Inv-loop μ-loop
-sound-process-requires c κs = search needs
-
 returns-6 : tie.Need-returns-6 Inv-loop μ-loop
 returns-6 c = unsound _ (live-fails (c .before .before .before .before .before .before .before .loop .inv) _ (c .before .before .before .before .if6 .taken)
     (sound-told _ _ _ (c .before .before .before .before .before .before .before .before .before .before .before .before .before .before .before .waiters-of .ensures) (not-false _ (c .before .before .before .before .before .before .before .before .before .before .before .before .before .if4 .left)) (c .before .before .rows-of .ensures .1) (c .before .sound-process .ensures) ∙ not-true _ (c .if7 .taken)))
 
-zero-process-requires : tie.Need-zero-process-requires Inv-loop μ-loop
-zero-process-requires c κs = search needs
-
 returns-7 : tie.Need-returns-7 Inv-loop μ-loop
 returns-7 c = unsound _ (unused-fails (c .before .before .before .before .before .loop .inv) _ (c .before .before .if6 .left) (c .before .before .before .before .loop-test .taken) (sym (c .before .zero-process .ensures) ∙ not-true _ (c .if8 .taken)))
-
-add-i : tie.Need-add-i Inv-loop μ-loop
-add-i c = search needs
-
-loop-less : tie.Need-loop-less Inv-loop μ-loop
-loop-less c = search needs
 
 loop-again : tie.Need-loop-again Inv-loop μ-loop
 loop-again c =
@@ -122,27 +89,27 @@ is-sound-spec =
     (tie.spec
     Inv-loop
     μ-loop
-    counts-fit-requires
+    (λ c κs. search needs)
     returns
-    pids-of-requires
+    (λ c κs. search needs)
     pids-fit-requires
     returns-2
-    unused-rows-requires
+    (λ c κs. search needs)
     returns-3
     waiters-of-requires
     returns-4
     owners-live-requires
     returns-5
     loop-holds
-    mul-p
-    element-copy-out-p
-    rows-of-requires
-    cast-sound-process
-    sound-process-requires
+    (λ c. search needs)
+    (λ c. search needs)
+    (λ c κs. search needs)
+    (λ c. search needs)
+    (λ c κs. search needs)
     returns-6
-    zero-process-requires
+    (λ c κs. search needs)
     returns-7
-    add-i
-    loop-less
+    (λ c. search needs)
+    (λ c. search needs)
     loop-again
     returns-8)

@@ -19,9 +19,6 @@ abbrev μ-loop : tie.MeasureT-loop
 returns : tie.Need-returns Inv-loop μ-loop
 returns c = sym (no-pids _ _ _ (c .if1 .taken))
 
-array-read-if2 : tie.Need-array-read-if2 Inv-loop μ-loop
-array-read-if2 c = search needs
-
 returns-2 : tie.Need-returns-2 Inv-loop μ-loop
 returns-2 c =
     let a = c .before .before .args in
@@ -36,35 +33,17 @@ loop-holds c =
     let l : 0 < a .n = search needs in
     rising (a .t1) (a .n) (a .next) h l (eq-eqb _ _ (c .if2 .left))
 
-mul-pid : tie.Need-mul-pid Inv-loop μ-loop
-mul-pid c = search needs
-
-array-read-pid : tie.Need-array-read-pid Inv-loop μ-loop
-array-read-pid c = search needs
-
-cast-pid : tie.Need-cast-pid Inv-loop μ-loop
-cast-pid c = search needs
-
 returns-3 : tie.Need-returns-3 Inv-loop μ-loop
 returns-3 c = sym (falls (c .before .before .loop .inv) (c .before .loop-test .taken) (lt-leb _ _ (c .if3 .taken)))
 
 add-low : tie.Need-add-low Inv-loop μ-loop
 add-low c = let h : Fits w16 (getD (c .before .before .before .before .before .args .t1) (c .before .before .loop .i) 0) = search needs in search needs
 
-add-i : tie.Need-add-i Inv-loop μ-loop
-add-i c = search needs
-
-loop-less : tie.Need-loop-less Inv-loop μ-loop
-loop-less c = search needs
-
 loop-again : tie.Need-loop-again Inv-loop μ-loop
 loop-again c = rise (c .before .before .loop .inv) (c .before .loop-test .taken) (le-leb _ _ (c .if3 .left))
 
 returns-4 : tie.Need-returns-4 Inv-loop μ-loop
-returns-4 c = rw (risen (c .before .before .loop .inv) (c .before .loop-test .left), le-leb _ _ (c .if4 .taken))
-
-returns-5 : tie.Need-returns-5 Inv-loop μ-loop
-returns-5 c = rw (risen (c .before .before .loop .inv) (c .before .loop-test .left), lt-leb _ _ (c .if4 .left))
+returns-4 c = sym (risen (c .before .loop .inv) (c .loop-test .left))
 
 pub pids-fit-spec : {M : Type 1} → statement M
 pids-fit-spec =
@@ -73,16 +52,15 @@ pids-fit-spec =
     Inv-loop
     μ-loop
     returns
-    array-read-if2
+    (λ c. search needs)
     returns-2
     loop-holds
-    mul-pid
-    array-read-pid
-    cast-pid
+    (λ c. search needs)
+    (λ c. search needs)
+    (λ c. search needs)
     returns-3
     add-low
-    add-i
-    loop-less
+    (λ c. search needs)
+    (λ c. search needs)
     loop-again
-    returns-4
-    returns-5)
+    returns-4)

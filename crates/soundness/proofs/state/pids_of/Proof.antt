@@ -19,24 +19,6 @@ loop-holds : tie.Need-loop-holds Inv-loop μ-loop
 unfolding padded
 loop-holds c = refl
 
-mul-ns : tie.Need-mul-ns Inv-loop μ-loop
-mul-ns c = search needs
-
-element-copy-out-ns : tie.Need-element-copy-out-ns Inv-loop μ-loop
-element-copy-out-ns c = search needs
-
-mul-ns-2 : tie.Need-mul-ns-2 Inv-loop μ-loop
-mul-ns-2 c = search needs
-
-array-write-ns : tie.Need-array-write-ns Inv-loop μ-loop
-array-write-ns c = search needs
-
-add-i : tie.Need-add-i Inv-loop μ-loop
-add-i c = search needs
-
-loop-less : tie.Need-loop-less Inv-loop μ-loop
-loop-less c = search needs
-
 loop-again : tie.Need-loop-again Inv-loop μ-loop
 loop-again c = rw (c .before .loop .inv) (copied-pid (c .before .before .args .t1 .procs) _ _ (simp length-map at (c .before .before .good .0 .1 .1 .0 .1 .0 .1)) (c .loop-test .taken))
 
@@ -50,11 +32,11 @@ pids-of-spec =
     Inv-loop
     μ-loop
     loop-holds
-    mul-ns
-    element-copy-out-ns
-    mul-ns-2
-    array-write-ns
-    add-i
-    loop-less
+    (λ c. search needs)
+    (λ c. search needs)
+    (λ c. search needs)
+    (λ c. search needs)
+    (λ c. search needs)
+    (λ c. search needs)
     loop-again
     returns)

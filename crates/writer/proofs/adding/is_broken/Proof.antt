@@ -8,12 +8,9 @@ returns : tie.Need-returns
 unfolding isBroken
 returns c = rw (c .if1 .taken)
 
-begins-with-requires : tie.Need-begins-with-requires
-begins-with-requires c κs = search needs
-
 returns-2 : tie.Need-returns-2
 unfolding isBroken
 returns-2 c = rw (c .before .if1 .left, c .begins-with .ensures)
 
 pub is-broken-spec : {M : Type 1} → statement M
-is-broken-spec = tie.close (tie.spec returns begins-with-requires returns-2)
+is-broken-spec = tie.close (tie.spec returns (λ c κs. search needs) returns-2)

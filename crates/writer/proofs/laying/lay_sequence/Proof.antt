@@ -8,39 +8,6 @@ use Rattle.writer.proofs.Buffers.{copied, sequence-put}
 use Rattle.writer.proofs.laying.lay_sequence.Statement.{statement}
 use Rattle.writer.proofs.laying.lay_sequence.Tie as tie
 
-add-paper-header : tie.Need-add-paper-header
-add-paper-header c = search needs
-
-paper-header-requires : tie.Need-paper-header-requires
-paper-header-requires c κs = search needs
-
-slice-aggregate-copy : tie.Need-slice-aggregate-copy
-slice-aggregate-copy c = search needs
-
-copy-requires : tie.Need-copy-requires
-copy-requires c κs = search needs
-
-mul-at : tie.Need-mul-at
-mul-at c = search needs
-
-add-at : tie.Need-add-at
-add-at c = search needs
-
-sub-put-sequence : tie.Need-sub-put-sequence
-sub-put-sequence c = search needs
-
-part-put-sequence-start : tie.Need-part-put-sequence-start
-part-put-sequence-start c = search needs
-
-part-put-sequence-end : tie.Need-part-put-sequence-end
-part-put-sequence-end c = search needs
-
-put-sequence-requires : tie.Need-put-sequence-requires
-put-sequence-requires c κs = search needs
-
-same-length : tie.Need-same-length
-same-length c = search needs
-
 returns : tie.Need-returns
 returns c =
     let o = c .before .before .before .before .before .before .before .before .before .before .before in
@@ -55,15 +22,15 @@ pub lay-sequence-spec : {M : Type 1} → statement M
 lay-sequence-spec =
     tie.close
     (tie.spec
-    add-paper-header
-    paper-header-requires
-    slice-aggregate-copy
-    copy-requires
-    mul-at
-    add-at
-    sub-put-sequence
-    part-put-sequence-start
-    part-put-sequence-end
-    put-sequence-requires
-    same-length
+    (λ c. search needs)
+    (λ c κs. search needs)
+    (λ c. search needs)
+    (λ c κs. search needs)
+    (λ c. search needs)
+    (λ c. search needs)
+    (λ c. search needs)
+    (λ c. search needs)
+    (λ c. search needs)
+    (λ c κs. search needs)
+    (λ c. search needs)
     returns)

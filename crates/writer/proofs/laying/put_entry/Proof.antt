@@ -7,21 +7,6 @@ use Rattle.writer.proofs.Buffers.{copied, entry-put}
 use Rattle.writer.proofs.laying.put_entry.Statement.{statement}
 use Rattle.writer.proofs.laying.put_entry.Tie as tie
 
-move-up-requires : tie.Need-move-up-requires
-move-up-requires c κs = search needs
-
-entry-bytes-requires : tie.Need-entry-bytes-requires
-entry-bytes-requires c κs = search needs
-
-slice-aggregate-copy : tie.Need-slice-aggregate-copy
-slice-aggregate-copy c = search needs
-
-copy-requires : tie.Need-copy-requires
-copy-requires c κs = search needs
-
-same-length : tie.Need-same-length
-same-length c = search needs
-
 returns : tie.Need-returns
 returns c =
     let b = c .before .before .before .before .before .entry-bytes in
@@ -34,9 +19,9 @@ pub put-entry-spec : {M : Type 1} → statement M
 put-entry-spec =
     tie.close
     (tie.spec
-    move-up-requires
-    entry-bytes-requires
-    slice-aggregate-copy
-    copy-requires
-    same-length
+    (λ c κs. search needs)
+    (λ c κs. search needs)
+    (λ c. search needs)
+    (λ c κs. search needs)
+    (λ c. search needs)
     returns)

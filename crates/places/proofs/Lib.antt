@@ -1,0 +1,9 @@
+pub mod Callings
+pub mod Finding
+pub mod Laying
+pub mod Located
+pub mod Masking
+pub mod Replies
+pub mod Settling
+pub mod Sevens
+pub mod Turning

@@ -1,3 +1,0 @@
-pub mod Children
-pub mod Taking
-pub mod Arguments

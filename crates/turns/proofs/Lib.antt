@@ -1,0 +1,4 @@
+pub mod Acting
+pub mod Border
+pub mod Owning
+pub mod Starting

@@ -1,0 +1,6 @@
+// One event, on arrays that hold the state and are changed in place.
+mod start;
+mod turns;
+
+pub use crate::start::begin;
+pub use crate::turns::turn;
