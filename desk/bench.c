@@ -27,7 +27,7 @@ enum { HEADER = 12, EVENT = 20, STORY_EVENTS = 10, PAINT = 0xA5, STACK = 1 << 20
 enum routine { MARK, KEY, ROUTINES };
 enum maker { OURS, PLAIN, MAKERS };
 
-static const double ratio_bar = 6.0, stack_bar = 100000.0, growth_bar = 1.1;
+static const double ratio_bar = 1.5, stack_bar = 6000.0, growth_bar = 1.1;
 static const size_t sizes[SIZES] = {10, 100, 1000}, papers_of[SIZES] = {8, 4, 2};
 static const char *const routine_name[ROUTINES] = {"mark", "key"};
 

@@ -15,7 +15,7 @@ function bold(words) { return "<tspan font-weight=\"bold\">" words "</tspan>" }
 function high(ratio) { return base - ratio * (base - top) / most }
 
 BEGIN {
-    width = 805; height = 330; left = 40; top = 50; base = 270; bar = 6
+    width = 805; height = 330; left = 40; top = 50; base = 270; bar = 1.5
     wide = 17; pair = 2 * wide + 7; group = 3 * pair + 22; apart = 35
     ink = "#333333"; paper = "#ffffff"; colour["mark"] = "#2b6ca3"; colour["key"] = "#e08a2e"; second["key"] = 1
     limit = "#b02020"; pale["mark"] = "#a3c1da"; pale["key"] = "#f3cfa6"
@@ -37,7 +37,7 @@ END {
     text(left, 18, 13, "start", ink, "Time an event, as a multiple of plain C")
     box(left, 27, 10, 10, colour["mark"]); text(left + 15, 36, 11, "start", ink, "mark")
     box(left + 60, 27, 10, 10, colour["key"]); text(left + 75, 36, 11, "start", ink, "key")
-    for (i = 0; i <= most; i += most > 12 ? 2 : 1) {
+    for (i = 0; i <= most; i += most > 12 ? 2 : most > 3 ? 1 : 0.5) {
         line(left, width - 10, high(i), "stroke=\"#dddddd\"")
         text(left - 6, high(i) + 4, 10, "end", ink, i)
     }
