@@ -14,6 +14,11 @@ ghost use Rattle.locks.specs.Pieces.{stores};
 ghost use Rattle.calls.specs.Making.{run, idIn, reactionIn};
 ghost use Rattle.places.specs.Settled.{Settled};
 
+// All places are used; all PIDs are.
+const FULL: u32 = 16;
+
+const LAST: u32 = 65536;
+
 fn bit_of(i: usize, n: u32) -> bool
     requires { ⌜ i < 16 ⌝ }
     ensures { λ b. ⌜ b ≡ bit i n ⌝ }
@@ -72,7 +77,7 @@ pub fn fshell(out: &mut Reply, m: &mut Numbers, i: usize, d1: u32, d2: u32)
     }
     let live = m[LIVE];
     let next = m[NEXT];
-    if live == 16 || next == 65536 {
+    if live == FULL || next == LAST {
         refusal(out, NOMEMORY);
         return;
     }

@@ -10,13 +10,13 @@ ghost use Prim.Native.Nat.{_≤_};
 const ROWS: usize = 32;
 
 pub(crate) struct Held {
-    pub cells: [u64; 132],
+    pub cells: [u64; WORDS],
     pub used: usize,
 }
 
 pub(crate) fn no_rows() -> Held {
     Held {
-        cells: [0u64; 132],
+        cells: [0u64; WORDS],
         used: 0,
     }
 }

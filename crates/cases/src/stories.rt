@@ -6,6 +6,8 @@ use crate::reading::event;
 use crate::reading::first;
 use crate::reading::is_digit;
 use crate::reading::line_end;
+use model::NUMBERS;
+use model::WORDS;
 use model::answer_in;
 use model::begin;
 use model::fresh;
@@ -69,8 +71,8 @@ fn tell_field(n: u32) {
 
 fn play(text: &[u8]) {
     let mut s = fresh();
-    let mut m = [0u32; 451];
-    let mut t = [0u64; 132];
+    let mut m = [0u32; NUMBERS];
+    let mut t = [0u64; WORDS];
     begin(&mut m);
     let mut by_hand = false;
     let mut at: usize = 0;
@@ -81,8 +83,8 @@ fn play(text: &[u8]) {
         io::write_all(1, line);
         if mark == 61 {
             s = fresh();
-            m = [0u32; 451];
-            t = [0u64; 132];
+            m = [0u32; NUMBERS];
+            t = [0u64; WORDS];
             begin(&mut m);
             by_hand = false;
         } else if mark == 33 {

@@ -35,7 +35,7 @@ fn owner_to_row<'a, 'b>(
     last: usize,
     i: usize,
     from: usize,
-    opened: &'b mut [bool; 33],
+    opened: &'b mut [bool; CELLS],
 ) -> bool
     requires { ⌜ Ready last i (now opened) × First (now t) i from ⌝ }
     ensures { λ b. ⌜ Searched (now (t .entry)) last (ownerAt (now (t .entry)) i) (Leads (now (t .entry)) last (ownerAt (now (t .entry)) i)) (now (opened .entry)) b (now (opened .exit)) ⌝ }
@@ -69,7 +69,7 @@ fn owner_to_row<'a, 'b>(
 }
 
 // From row a, which is in the way of a row that the search came to, to its owner, and on if that is not opened yet.
-fn row_to_owners<'a, 'b>(t: &'a Cells, last: usize, a: usize, opened: &'b mut [bool; 33]) -> bool
+fn row_to_owners<'a, 'b>(t: &'a Cells, last: usize, a: usize, opened: &'b mut [bool; CELLS]) -> bool
     requires { ⌜ Ready last a (now opened) × (ownerAt (now t) a ≡ ownerAt (now t) last → ⊥) ⌝ }
     ensures { λ b. ⌜ Searched (now (t .entry)) last (ownerAt (now (t .entry)) a) (_≡_ (ownerAt (now (t .entry)) a)) (now (opened .entry)) b (now (opened .exit)) ⌝ }
 {
@@ -86,7 +86,7 @@ pub fn leads_back(t: &Cells, last: usize) -> bool
     requires { ⌜ last < CELLS ⌝ }
     ensures { λ b. ⌜ ((rows : List Row) (r : Row) → Shows (now (t .entry)) (rows ++ r ∷ []) → length rows ≡ last → (b ≡ true) ↔ Chain (Link (rows ++ r ∷ [])) (r .owner) (r .owner)) ⌝ }
 {
-    let mut opened = [false; 33];
+    let mut opened = [false; CELLS];
     let from = first_row(t, last);
     owner_to_row(t, last, last, from, &mut opened)
 }

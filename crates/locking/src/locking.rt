@@ -23,6 +23,9 @@ ghost use Rattle.places.specs.Settled.{Settled, Sequence, Asked};
 ghost use Rattle.locking.specs.Granted.{Granted};
 ghost use Rattle.locking.specs.Queued.{Fills, heldOrFull, waitsOrNot};
 
+// A sequence has at most so many bytes.
+const LONGEST: u32 = 16;
+
 // Rows have gone: a lock sleeper none of whose rows waits wakes. The mask of those.
 pub fn grant(m: &mut Numbers, t: &Cells) -> u32
     requires { ⌜ Laid (now m) (now t) ⌝ }
@@ -71,7 +74,7 @@ fn hold(out: &mut Reply, m: &mut Numbers, t: &mut Cells, used: usize, c: Cell)
     requires { ⌜ Fills (now m) (now t) used × (length (now out) ≡ 4) ⌝ }
     ensures { λ _. ⌜ ((r : Row) → Tells c r → Settled (machine (now (m .entry)) (now (t .entry))) (heldOrFull r (machine (now (m .entry)) (now (t .entry)))) (now (out .exit)) (now (m .exit)) (now (t .exit))) ⌝ }
 {
-    if used == 32 {
+    if used == ROWS {
         refusal(out, LCKTABLE);
         return;
     }
@@ -90,7 +93,7 @@ fn queue(out: &mut Reply, m: &mut Numbers, t: &mut Cells, i: usize, used: usize,
     if leads_back(t, used) {
         number = DEADLOCK;
     } else {
-        if used == 32 {
+        if used == ROWS {
             number = LCKTABLE;
         }
     }
@@ -119,7 +122,7 @@ pub fn lock(
     requires { ⌜ Calls (now m) (now t) i × Asked n low high × (length (now out) ≡ 4) ⌝ }
     ensures { λ _. ⌜ ((e : Event) → Sequence e n low high → e .d2 ≡ d2 → Settled (machine (now (m .entry)) (now (t .entry))) (doLock (caller (now (m .entry)) (now (t .entry)) i) e (machine (now (m .entry)) (now (t .entry)))) (now (out .exit)) (now (m .exit)) (now (t .exit))) ⌝ }
 {
-    if 3 < d2 || n < 1 || 16 < n {
+    if 3 < d2 || n < 1 || LONGEST < n {
         refusal(out, BADCALL);
         return;
     }
@@ -150,7 +153,7 @@ pub fn unlock(
     requires { ⌜ Calls (now m) (now t) i × Asked n low high × (length (now out) ≡ 4) ⌝ }
     ensures { λ _. ⌜ ((e : Event) → Sequence e n low high → Settled (machine (now (m .entry)) (now (t .entry))) (doUnlock (caller (now (m .entry)) (now (t .entry)) i) e (machine (now (m .entry)) (now (t .entry)))) (now (out .exit)) (now (m .exit)) (now (t .exit))) ⌝ }
 {
-    if n < 1 || 16 < n {
+    if n < 1 || LONGEST < n {
         refusal(out, BADCALL);
         return;
     }

@@ -40,6 +40,10 @@ SHARED = 256
 abbrev pub CELLS : ℕ
 CELLS = 33
 
+-- the numbers of all cells
+abbrev pub WORDS : ℕ
+WORDS = 132
+
 unfoldable pub words : Row → List ℕ
 words r = r .owner ∷ (r .len + cond (r .shared) SHARED 0) ∷ value (take 8 (r .bytes)) ∷ value (drop 8 (r .bytes)) ∷ []
 

@@ -30,7 +30,10 @@ pub const SHARED: u64 = 256;
 // Every row, and the one that is asked for.
 pub const CELLS: usize = 33;
 
-pub type Cells = [u64; 132];
+// The numbers of all cells.
+pub const WORDS: usize = 132;
+
+pub type Cells = [u64; WORDS];
 
 pub struct Cell {
     pub owner: u64,

@@ -1,4 +1,6 @@
 // The key of a paper, written into a lent buffer.
+use model::NUMBERS;
+use model::WORDS;
 use model::begin;
 use model::turn;
 use papers::event;
@@ -30,8 +32,8 @@ fn put_answers(p: &[u8], n: u16, out: &mut [u8])
     requires { ⌜ 16 * n ≤ length (now out) ⌝ }
     ensures { λ _. ⌜ now (out .exit) ≡ joined (map answerBytes (answersFrom (laid State·fresh) (eventsFrom (now (p .entry)) 12 n))) ++ drop (16 * n) (now (out .entry)) ⌝ }
 {
-    let mut m = [0u32; 451];
-    let mut t = [0u64; 132];
+    let mut m = [0u32; NUMBERS];
+    let mut t = [0u64; WORDS];
     begin(&mut m);
     let mut i: u16 = 0;
     while i < n {

@@ -1,4 +1,6 @@
 // A sheet marked by its paper.
+use model::NUMBERS;
+use model::WORDS;
 use model::begin;
 use model::turn;
 use papers::event;
@@ -45,8 +47,8 @@ fn above(a: u16, b: u16) -> u16
 fn right_places(p: &[u8], sheet: &[u8], n: u16) -> u16
     ensures { λ r. ⌜ r ≡ rightPlaces (map answerBytes (answersFrom (laid fresh) (eventsFrom (now (p .entry)) 12 n))) (sixteensFrom (now (sheet .entry)) 6 n) ⌝ }
 {
-    let mut m = [0u32; 451];
-    let mut t = [0u64; 132];
+    let mut m = [0u32; NUMBERS];
+    let mut t = [0u64; WORDS];
     begin(&mut m);
     let mut right: u16 = 0;
     let mut i: u16 = 0;

@@ -16,7 +16,7 @@ ghost use Rattle.rules.specs.State.{fresh, laid, view};
 ghost use Rattle.rules.specs.Sound.{sound};
 ghost use Rattle.locks.specs.Pieces.{stores};
 ghost use Rattle.places.specs.Places.{NUMBERS, PLACE, PLACES, ROWS, Lays, whole};
-ghost use Rattle.locks.specs.Cells.{CELL, CELLS, Rows, Tells};
+ghost use Rattle.locks.specs.Cells.{CELL, CELLS, WORDS, Rows, Tells};
 ghost use Rattle.model.specs.Fields.{Slim, Unnumbered, fields, plainAt, sevenAt, threeAt};
 ghost use Rattle.turns.specs.Turn.{Holds, stateIn};
 
@@ -106,7 +106,7 @@ fn cell_of(r: Row) -> Cell
 }
 
 fn put_rows(table: Table, t: &mut Cells)
-    requires { ⌜ (table .used ≤ ROWS) × (all fitRow (rowsOf table) ≡ true) × (now t ≡ replicate 132 0) ⌝ }
+    requires { ⌜ (table .used ≤ ROWS) × (all fitRow (rowsOf table) ≡ true) × (now t ≡ replicate WORDS 0) ⌝ }
     ensures { λ _. ⌜ Rows (now (t .exit)) (rowsOf table) × (length (table .rows) ≡ ROWS) ⌝ }
 {
     let used = table.used;
@@ -120,7 +120,7 @@ fn put_rows(table: Table, t: &mut Cells)
 
 // The state s, in arrays of zeros.
 pub(crate) fn lay_out(s: State, m: &mut Numbers, t: &mut Cells)
-    requires { ⌜ (sound s ≡ true) × (now m ≡ replicate NUMBERS 0) × (now t ≡ replicate 132 0) ⌝ }
+    requires { ⌜ (sound s ≡ true) × (now m ≡ replicate NUMBERS 0) × (now t ≡ replicate WORDS 0) ⌝ }
     ensures { λ _. ⌜ Lays (now (m .exit)) (now (t .exit)) (view s) × (s ≡ laid (view s)) ⌝ }
 {
     put_processes(s, m);

@@ -1,7 +1,9 @@
 // The fresh state, and one event in any state.
 use crate::layout::lay_out;
 use crate::readout::*;
+use locks::cells::WORDS;
 use numbers::refusals::BADSTATE;
+use places::fields::NUMBERS;
 use rules::state::*;
 use soundness::is_sound;
 use turns::begin;
@@ -27,8 +29,8 @@ fn bad_state() -> Answer
 pub fn fresh() -> State
     ensures { λ r. ⌜ r ≡ laid fresh ⌝ }
 {
-    let mut m = [0u32; 451];
-    let t = [0u64; 132];
+    let mut m = [0u32; NUMBERS];
+    let t = [0u64; WORDS];
     begin(&mut m);
     state_in(&m, &t)
 }
@@ -42,8 +44,8 @@ pub fn step(s: State, e: Event) -> Stepped
             state: s,
         };
     }
-    let mut m = [0u32; 451];
-    let mut t = [0u64; 132];
+    let mut m = [0u32; NUMBERS];
+    let mut t = [0u64; WORDS];
     let mut out = [0u32; 4];
     lay_out(s, &mut m, &mut t);
     turn(&mut out, &mut m, &mut t, e);

@@ -40,7 +40,14 @@ pub const USED: usize = 449;
 
 pub const NEXT: usize = 450;
 
-pub type Numbers = [u32; 451];
+pub const NUMBERS: usize = 451;
+
+pub type Numbers = [u32; NUMBERS];
+
+// How many processes may live, and how many rows may be used.
+pub const PLACES: usize = 16;
+
+pub const ROWS: usize = 32;
 
 // What a reaction, a sleep and a last wake are.
 pub const ABORT: u32 = 0;

@@ -130,8 +130,8 @@ fn loud_second(out: &mut Reply, m: &mut Numbers, t: &mut Cells)
     ensures { λ _. ⌜ Settled (machine (now (m .entry)) (now (t .entry))) (answered done 0 0 (ticked (machine (now (m .entry)) (now (t .entry))))) (now (out .exit)) (now (m .exit)) (now (t .exit)) ⌝ }
 {
     let live = m[LIVE] as usize;
-    let mut pids = [0u32; 16];
-    let mut sleeps = [0u32; 16];
+    let mut pids = [0u32; PLACES];
+    let mut sleeps = [0u32; PLACES];
     note(m, &mut pids, &mut sleeps);
     pass_second(m);
     ring_all(m, t, &pids, live);

@@ -27,8 +27,8 @@ pub fn exit(out: &mut Reply, m: &mut Numbers, t: &mut Cells, i: usize)
         return;
     }
     let live = m[LIVE] as usize;
-    let mut pids = [0u32; 16];
-    let mut sleeps = [0u32; 16];
+    let mut pids = [0u32; PLACES];
+    let mut sleeps = [0u32; PLACES];
     note(m, &mut pids, &mut sleeps);
     end_process(m, t, pid);
     settle(out, m, &pids, &sleeps, live, CALLER_ENDED);
@@ -41,8 +41,8 @@ fn send(out: &mut Reply, m: &mut Numbers, t: &mut Cells, i: usize, j: usize, sig
 {
     let pid = of(m, i, PID);
     let live = m[LIVE] as usize;
-    let mut pids = [0u32; 16];
-    let mut sleeps = [0u32; 16];
+    let mut pids = [0u32; PLACES];
+    let mut sleeps = [0u32; PLACES];
     note(m, &mut pids, &mut sleeps);
     arrive(m, t, j, signal);
     let mut kind = DONE;

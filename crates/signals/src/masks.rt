@@ -12,7 +12,7 @@ ghost use Rattle.rules.specs.Reply.{fourOf};
 ghost use Rattle.places.specs.Settled.{masked};
 ghost use Rattle.signals.specs.Noted.{Noted, upAt};
 
-pub(crate) type Before = [u32; 16];
+pub(crate) type Before = [u32; PLACES];
 
 // The PIDs and the sleeps before an event.
 pub(crate) fn note(m: &Numbers, pids: &mut Before, sleeps: &mut Before)
