@@ -1,7 +1,7 @@
 // An event as the paper has it.
 use crate::bytes::*;
-use crate::events::event_at;
 ghost use mathlib.Core.Path.{_≡_};
+ghost use Prim.Native.Nat.{_≤_};
 ghost use Rattle.papers.specs.Bytes.{run};
 ghost use Rattle.papers.specs.Entries.{entryAt};
 
@@ -18,22 +18,30 @@ pub struct Entry {
     pub sequence: u16,
 }
 
+// The event whose 20 bytes stand at `at`.
+pub(crate) fn entry_at(file: &[u8], at: u32) -> Entry
+    requires { ⌜ at ≤ 2000000 ⌝ }
+    ensures { λ r. ⌜ r ≡ entryAt (now (file .entry)) at ⌝ }
+{
+    let from = at as usize;
+    Entry {
+        kind: byte(file, from),
+        call: byte(file, from + 1),
+        caller: number(file, at + 2),
+        d0: number(file, at + 4),
+        d1: number(file, at + 6),
+        d2: number(file, at + 8),
+        d3: long_number(file, at + 10),
+        a0: long_number(file, at + 14),
+        sequence: number(file, at + 18),
+    }
+}
+
 // The event that is given alone, by its 20 bytes.
 pub fn entry_of(event: &[u8]) -> Entry
     ensures { λ r. ⌜ r ≡ entryAt (now (event .entry)) 0 ⌝ }
 {
-    let e = event_at(event, 0);
-    Entry {
-        kind: e.kind,
-        call: e.call,
-        caller: e.caller,
-        d0: e.d0,
-        d1: e.d1,
-        d2: e.d2,
-        d3: e.d3,
-        a0: e.a0,
-        sequence: number(event, 18),
-    }
+    entry_at(event, 0)
 }
 
 // The sequence that is given alone, by its 16 bytes.

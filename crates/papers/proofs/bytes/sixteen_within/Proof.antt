@@ -2,31 +2,47 @@
 use borrow.Author.Needs.{needs}
 use Rattle.papers.proofs.bytes.sixteen_within.Statement.{statement}
 use Rattle.papers.proofs.bytes.sixteen_within.Tie as tie
-use Prim.Native.Nat.{_-_, _≤_}
-use mathlib.Core.Path.{_≡_, refl, sym, _∙_}
-use native.Mathlib.Omega.{arith}
-use lib.ListN.{length, take, length-set}
-use lib.Seq.{take-all}
-use Rattle.papers.specs.Bytes.{run}
-use Rattle.papers.proofs.Runs.{run-put}
+use mathlib.Core.Path.{sym}
+use Rattle.papers.proofs.Runs.{run-sixteen}
 
-abbrev Inv-loop : tie.InvT-loop
-Inv-loop file at bytes₀ i₀ bytes i = (i ≤ 16) × (length bytes ≡ 16) × (take i bytes ≡ run file at i)
-
-abbrev μ-loop : tie.MeasureT-loop
-μ-loop file at bytes₀ i₀ bytes i = 16 - i
-
-loop-again : tie.Need-loop-again Inv-loop μ-loop
-loop-again c =
-    let l = c .before .before .loop in
-    let a = c .before .before .before .args in
-    (search needs, simp length-set (search needs), run-put (a .file .now) (l .bytes) (a .at) (l .i) _ (omega arith) (l .inv .2) refl)
-
-returns : tie.Need-returns Inv-loop μ-loop
+returns : tie.Need-returns
 returns c =
-    let l = c .before .loop in
-    let e : l .i ≡ 16 = omega arith in
-    sym (take-all 16 (l .bytes) (omega arith)) ∙ rw e at (l .inv .2)
+    let a = c .before .before .before .before .before .before .before .before .before .before .before .before .before .before .before .before .args in
+    sym (run-sixteen (a .file .now) (a .at))
 
 pub sixteen-within-spec : {M : Type 1} → statement M
-sixteen-within-spec = tie.close (tie.spec Inv-loop μ-loop (λ c. search needs) (λ c. search needs) (λ c. search needs) (λ c. search needs) (λ c. search needs) (λ c. search needs) loop-again returns)
+sixteen-within-spec =
+    tie.close
+    (tie.spec
+    (λ c. search needs)
+    (λ c. search needs)
+    (λ c. search needs)
+    (λ c. search needs)
+    (λ c. search needs)
+    (λ c. search needs)
+    (λ c. search needs)
+    (λ c. search needs)
+    (λ c. search needs)
+    (λ c. search needs)
+    (λ c. search needs)
+    (λ c. search needs)
+    (λ c. search needs)
+    (λ c. search needs)
+    (λ c. search needs)
+    (λ c. search needs)
+    (λ c. search needs)
+    (λ c. search needs)
+    (λ c. search needs)
+    (λ c. search needs)
+    (λ c. search needs)
+    (λ c. search needs)
+    (λ c. search needs)
+    (λ c. search needs)
+    (λ c. search needs)
+    (λ c. search needs)
+    (λ c. search needs)
+    (λ c. search needs)
+    (λ c. search needs)
+    (λ c. search needs)
+    (λ c. search needs)
+    returns)
