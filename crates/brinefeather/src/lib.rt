@@ -1,4 +1,6 @@
 // The routines for C: each answers one 64-bit number. The archive that C links is made of this crate.
+#![tactic(auto)]
+
 mod desk;
 mod writing;
 

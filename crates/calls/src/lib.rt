@@ -1,4 +1,6 @@
 // One process in its place: the calls that touch their caller alone, take, the wake report; its child.
+#![tactic(auto)]
+
 mod child;
 mod own;
 

@@ -98,7 +98,7 @@ fn row(r: Row, field: u32, k: u32, v: u32) -> Row {
 }
 
 // The fields of a line, after its first character.
-#[derive(Drop)]
+#[derive(Clone, Copy)]
 struct Field {
     field: u32,
     place: u32,

@@ -8,7 +8,7 @@ use locks::words::words_of;
 
 const ROWS: usize = 32;
 
-#[derive(Drop)]
+#[derive(Clone, Copy)]
 pub(crate) struct Held {
     pub cells: [u64; WORDS],
     pub used: usize,

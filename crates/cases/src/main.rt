@@ -1,4 +1,6 @@
 // Runs situations whose answers were derived by hand from document 01; the file `stdout` beside `src` has those answers.
+#![tactic(auto)]
+
 mod hand;
 mod held;
 mod reading;

@@ -4,7 +4,7 @@ ghost use Rattle.std.specs.Prelude.{length, ◌≤◌, ◌<◌};
 use rules::state::Event;
 
 // A number, and the place behind it.
-#[derive(Drop)]
+#[derive(Clone, Copy)]
 pub(crate) struct Read {
     pub value: u32,
     pub next: usize,

@@ -1,4 +1,6 @@
 // A file by its name, as the programs read it.
+#![tactic(auto)]
+
 ghost use Rattle.io.specs.Counts.{IsPrefixLen};
 
 // Puts a file at the start of buf, and answers how many bytes of it are there: all of them, or buf's length where the file has as many or more.

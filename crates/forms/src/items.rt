@@ -1,14 +1,14 @@
 // What a writer of papers holds and answers.
 
 // How many events and sequences the paper so far has.
-#[derive(Drop)]
+#[derive(Clone, Copy)]
 pub struct Writer {
     pub events: u16,
     pub sequences: u16,
 }
 
 // The refusals of a writer.
-#[derive(Drop)]
+#[derive(Clone, Copy)]
 pub enum Refusal {
     Badpaper,
     Order,
@@ -17,7 +17,7 @@ pub enum Refusal {
 }
 
 // The writer after an accepted call, or the refusal.
-#[derive(Drop)]
+#[derive(Clone, Copy)]
 pub enum Added {
     Taken(Writer),
     Refused(Refusal),

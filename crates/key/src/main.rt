@@ -1,4 +1,6 @@
 // Writes the key of the file `paper` to the file `key`, or prints why there is none.
+#![tactic(auto)]
+
 use libc::STDOUT_FILENO;
 use marker::keys::Keyed;
 use papers::layout::Refusal;

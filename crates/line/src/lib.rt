@@ -1,4 +1,6 @@
 // The line that a program prints. The longest one, with four numbers of five digits and `perfect no`, has 63 bytes.
+#![tactic(auto)]
+
 ghost use Rattle.std.specs.Prelude.{◌++◌, ◌+◌, ◌≤◌, length};
 ghost use Rattle.line.specs.Line.{decimal, numbers_of, offset_text, refused_line, line_of, Put, Printed};
 
@@ -10,7 +12,9 @@ fn put(text: &[u8], at: usize, out: &mut [u8]) -> usize
     requires { at + length text.now ≤ length out.old }
     ensures { Put text.now at out.old result out.new }
 {
-    at + bytes::copy(text, &mut out[at..])
+    let end = at + text.len();
+    out[at..end].copy_from_slice(text);
+    end
 }
 
 // Puts a number behind its name into out from `at` on, and answers where it ends.

@@ -1,4 +1,6 @@
 // Lock and unlock, and who wakes when rows have gone.
+#![tactic(auto)]
+
 mod locking;
 
 pub use crate::locking::{grant, lock, unlock};

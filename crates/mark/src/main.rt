@@ -1,4 +1,6 @@
 // Marks the file `sheet` by the file `paper` and prints one line.
+#![tactic(auto)]
+
 use libc::STDOUT_FILENO;
 
 fn main() {

@@ -13,7 +13,7 @@ use papers::layout::{Read, Refusal};
 use papers::{event, header, paper, put_reply};
 
 // The key's length, or the refusal.
-#[derive(Drop)]
+#[derive(Clone, Copy)]
 pub enum Keyed {
     Written(usize),
     Refused(Refusal),
@@ -42,7 +42,7 @@ fn put_key(p: &[u8], n: u16, out: &mut [u8])
     ensures { out.new ≡ sheet_header n ++ joined (map answer_bytes (answers_from (laid State·fresh) (events_from p.now 12 n))) ++ drop (6 + 16 * n) out.old }
 {
     let head = header(n);
-    bytes::copy(&head, out);
+    out[..6].copy_from_slice(&head);
     put_answers(p, n, &mut out[6..]);
 }
 

@@ -12,7 +12,7 @@ use papers::layout::{Read, Refusal};
 use papers::{event, paper, sheet, stands_at};
 
 // What a sheet is worth, or the refusal.
-#[derive(Drop)]
+#[derive(Clone, Copy)]
 pub enum Marked {
     Mark {
         total: u16,

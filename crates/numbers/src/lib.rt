@@ -1,4 +1,6 @@
 // What a number is by itself: the class of a call number, whether a priority lies in its range, the numbers of refusals.
+#![tactic(auto)]
+
 mod class;
 mod priority;
 pub mod refusals;

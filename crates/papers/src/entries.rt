@@ -6,7 +6,7 @@ ghost use Rattle.papers.specs.Entries.{entry_at};
 use crate::bytes::*;
 
 // With the number of its sequence, 0 for none.
-#[derive(Drop)]
+#[derive(Clone, Copy)]
 pub struct Entry {
     pub kind: u8,
     pub call: u8,

@@ -1,4 +1,6 @@
 // Papers and sheets as bytes: their layout, the events of a paper, the answers of a sheet.
+#![tactic(auto)]
+
 mod answers;
 mod bytes;
 pub mod entries;

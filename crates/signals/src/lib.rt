@@ -1,4 +1,6 @@
 // Processes end, signals arrive, seconds pass.
+#![tactic(auto)]
+
 mod clock;
 mod endings;
 mod kills;

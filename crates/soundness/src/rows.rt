@@ -84,7 +84,7 @@ fn meets<'a>(
 
 // Whether each row is sound, its owner aside, and none has a twin; if so, the owners of the rows that
 // wait, as many as `count` says, and the owners of all rows.
-#[derive(Drop)]
+#[derive(Clone, Copy)]
 pub(crate) struct Waiters {
     pub apart: bool,
     pub count: usize,

@@ -1,4 +1,6 @@
 // One event, on arrays that hold the state and are changed in place.
+#![tactic(auto)]
+
 mod start;
 mod turns;
 

@@ -26,7 +26,7 @@ fn put_entry(out: &mut [u8], n: usize, e: Entry)
 {
     move_up(out, n);
     let record = entry_bytes(e);
-    bytes::copy(&record, out);
+    out[..20].copy_from_slice(&record);
 }
 
 // Puts a sequence at the start.
@@ -34,7 +34,7 @@ fn put_sequence(out: &mut [u8], s: [u8; 16])
     requires { 16 ≤ length out.old }
     ensures { out.new ≡ s ++ drop 16 out.old }
 {
-    bytes::copy(&s, out);
+    out[..16].copy_from_slice(&s);
 }
 
 // One event more, behind the events and before the sequences: the counts are those before it.
@@ -43,7 +43,7 @@ pub(crate) fn lay_event(out: &mut [u8], events: u16, sequences: u16, e: Entry)
     ensures { out.new ≡ paper_header (events + 1) sequences ++ take (20 * events) (drop 12 out.old) ++ entry_bytes e ++ take (16 * sequences) (drop (12 + 20 * events) out.old) ++ drop (12 + 20 * events + (20 + 16 * sequences)) out.old }
 {
     let header = paper_header(events + 1, sequences);
-    bytes::copy(&header, out);
+    out[..12].copy_from_slice(&header);
     let at = 12 + 20 * (events as usize);
     let n = 16 * (sequences as usize);
     put_entry(&mut out[at..], n, e);
@@ -55,7 +55,7 @@ pub(crate) fn lay_sequence(out: &mut [u8], sequences: u16, s: [u8; 16])
     ensures { out.new ≡ paper_header 0 (sequences + 1) ++ take (16 * sequences) (drop 12 out.old) ++ s ++ drop (12 + 16 * sequences + 16) out.old }
 {
     let header = paper_header(0, sequences + 1);
-    bytes::copy(&header, out);
+    out[..12].copy_from_slice(&header);
     let at = 12 + 16 * (sequences as usize);
     put_sequence(&mut out[at..], s);
 }
