@@ -1,0 +1,62 @@
+-- `calls::own::take` meets its contract. Assumes nothing.
+use Prim.Native.Nat.{ℕ, ◌+◌, ◌<◌, ◌%◌, ◌*◌, ◌^◌}
+use native.Mathlib.Omega.{arith}
+use mathlib.Core.Path.{refl, sym, ap, ◌∙◌}
+use mathlib.Core.List.{List}
+use mathlib.Core.Logic.{⊎_elim}
+use lib.Bits.{bit_xor, xor_lt}
+use lib.Count.{count_trailing_zeros}
+use lib.Dec.{lit≤}
+use lib.ListN.{set}
+use borrow.Author.Tests.{eq-eqb}
+use Rattle.rules.specs.Signals.{taken}
+use Rattle.places.specs.Places.{PENDING, PLACE, Turns}
+use Rattle.places.specs.Settled.{answer_of}
+use Rattle.places.proofs.Turning.{turn_is}
+use Rattle.calls.proofs.Doing.{still, does, pending-is}
+use Rattle.calls.proofs.Handing.{zeros-below, handing, handed, handed-address, handed-none, turn-handed, turn-none}
+use borrow.Author.Rules.{rules}
+use Rattle.calls.proofs.own.take.Goals as goal
+use Rattle.calls.proofs.own.take.Goals.{else-k-lt7, then-k-lt7}
+
+-- the signal is one of eight
+low : (c : tie.Else1) → count_trailing_zeros 8 c.before.of.result < 8
+low c = zeros-below 8 8 _ (omega arith) (omega arith) (lit≤ tt)
+
+pub returns-then-pending-eq0 : goal.returns-then-pending-eq0
+unfolding taken
+returns-then-pending-eq0 c =
+    does (answer_of 0 0 0 0) still c.plain.ensures
+    (λ p l. rw (eq-eqb p.signals.pending 0 (sym (pending-is l c.of-pending.ensures) ∙ c.if-pending-eq0.true)) (refl, refl))
+
+pub overflow_cast-k : goal.overflow_cast-k
+overflow_cast-k c = omega (arith, low c)
+
+pub overflow_cast-k-2 : goal.overflow_cast-k-2
+overflow_cast-k-2 c = omega (arith, low c)
+
+pub overflow_shl-k : goal.overflow_shl-k
+overflow_shl-k c = low c
+
+pub overflow_cast-pending-2 : goal.overflow_cast-pending-2
+overflow_cast-pending-2 c =
+    let x = c.of-pending.result in
+    let b = (1 * 2 ^ count_trailing_zeros 8 x) % 256 in
+    omega (arith, xor_lt 8 x b (omega arith) (omega arith))
+
+pub overflow_add-z : goal.overflow_add-z
+overflow_add-z c = omega (arith, low c)
+
+pub returns : goal.returns
+returns c =
+    let r = c.of-pending.result in
+    let k = count_trailing_zeros 8 r in
+    let v = bit_xor r ((1 * 2 ^ k) % 2 ^ 8) in
+    let i = c.args.i in
+    let after : List ℕ → List ℕ = λ n. set n (i * PLACE + PENDING) v in
+    let t : Turns (handing k v) c.args.m.now i c.set-2.new.0 =
+    elim c.if-k-lt7.branch [ then-k-lt7 w ↦ turn_is (c.set-2.ensures ∙ ap after (w.5 ∙ w.4.ensures)) (turn-handed k v w.if-k-lt7.true) | else-k-lt7 w ↦ turn_is (c.set-2.ensures ∙ ap after w.1) (turn-none k v w.if-k-lt7.false) ] in
+    does (answer_of 0 0 (k + 1) c.if-k-lt7.a) t c.plain-2.ensures
+    (λ p l.
+    handed p r c.if-k-lt7.a (pending-is l c.of-pending.ensures) c.if-pending-eq0.false (low c)
+    (elim c.if-k-lt7.branch [ then-k-lt7 w ↦ handed-address l k w.if-k-lt7.true (w.6 ∙ w.2.ensures) | else-k-lt7 w ↦ handed-none l k w.if-k-lt7.false w.2 ]))

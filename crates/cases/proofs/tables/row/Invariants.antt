@@ -1,0 +1,10 @@
+-- `cases::tables::row` ends. Assumes nothing.
+use borrow.Author.Rules.{rules}
+use Prim.Native.Nat.{◌-◌, ◌≤◌}
+use Rattle.cases.proofs.tables.row.Given as goal
+
+abbrev pub invariant-loop-n : goal.invariant-loop-n
+invariant-loop-n l = l.n ≤ 16
+
+abbrev pub decreases-loop-n : goal.decreases-loop-n
+decreases-loop-n l = 16 - l.n

@@ -1,0 +1,20 @@
+-- `locking::locking::grant` meets its contract. The invariant: the first i processes are as `granted` has them, and those who woke are marked. Assumes nothing.
+use Prim.Native.Nat.{◌-◌, ◌≤◌}
+use mathlib.Core.Path.{◌≡◌, sym}
+use mathlib.Core.Logic.{⊎_elim}
+use lib.ListN.{length}
+use Rattle.rules.specs.State.{granted, rows_left}
+use Rattle.locks.specs.Cells.{Rows}
+use Rattle.places.specs.Places.{machine, ROWS}
+use Rattle.places.proofs.Laying.{procs-used}
+use Rattle.locks.proofs.Telling.{rows-shows}
+use Rattle.locking.proofs.Sweep.{Sweep, sweep, swept, grant-woken, grant-waits, grant-awake}
+use borrow.Author.Rules.{rules}
+use Rattle.locking.proofs.locking.grant.Given as goal
+
+abbrev pub invariant-loop-i : goal.invariant-loop-i
+invariant-loop-i l =
+    Sweep (granted (machine l.initial.m l.t).rows) (machine l.initial.m l.t).procs (length (machine l.initial.m l.t).rows) (machine l.initial.m l.t).next l.m l.live l.woken l.bit l.i × Rows l.t (machine l.initial.m l.t).rows × (l.used ≤ ROWS) × (length (machine l.initial.m l.t).rows ≡ l.used)
+
+abbrev pub decreases-loop-i : goal.decreases-loop-i
+decreases-loop-i l = l.live - l.i

@@ -1,0 +1,74 @@
+-- `cells::stands` meets its contract: none of the first i rows is a twin, and waiting says whether one conflicts. Assumes nothing.
+use Prim.Native.Nat.{◌-◌, ◌≤◌}
+use mathlib.Core.Path.{◌≡◌, refl, sym, ap, ◌∙◌}
+use mathlib.Core.Bool.{false, true}
+use mathlib.Core.List.{List}
+use mathlib.Core.Logic.{⊎_elim}
+use native.Mathlib.Omega.{arith}
+use lib.ListN.{length, take, get_or}
+use lib.Seq.{take_all, take-length}
+use Rattle.locks.specs.Lists.{any}
+use Rattle.locks.specs.Rows.{no_row, twin, has_twin, conflict, waits, standing_of}
+use Rattle.locks.specs.declared.rows.Row.{Row}
+use Rattle.locks.proofs.Loops.{some_next, same_next, none-next, found}
+use Rattle.locks.specs.Cells.{SHARED, Shows, Tells}
+use Rattle.locks.proofs.Telling.{walk, tells_row, tells-owner, twin-here, no-twin-here, no-sequence, by-sequence, calm-shared}
+use borrow.Author.Rules.{rules}
+use borrow.Author.Tests.{ltb-true, ltb-false}
+use Rattle.locks.proofs.cells.stands.Goals as goal
+
+pub loop-i-init : goal.loop-i-init
+loop-i-init c = (omega arith, λ rows r l e x. (refl, refl))
+
+pub returns-then-x-c : goal.returns-then-x-c
+unfolding standing_of has_twin
+returns-then-x-c c =
+    let i = c.loop-i.i in
+    λ rows r l e x.
+    let y = tells_row l i c.cell_at-x.ensures (omega (arith, e)) in
+    let h : any (twin r) rows ≡ true =
+    ap (any (twin r)) (sym (take-length rows)) ∙ found (walk rows {n = length rows} (omega arith) (omega (arith, e, c.loop-i.invariant.0))) (twin r) no_row (omega (arith, e)) (sym (twin-here y r (tells-owner x) c.if-x-c.true x c.same_sequence.ensures) ∙ c.if-same_sequence.true) in
+    rw h
+
+pub loop-i-preserved : goal.loop-i-preserved
+loop-i-preserved c =
+    let a = c.args in
+    let i = c.loop-i.i in (
+      omega arith,
+      λ rows r l e x.
+          let q = get_or rows i no_row in
+          let y = tells_row l i c.cell_at-x.ensures (omega (arith, e)) in
+          let k = walk rows {n = length rows} {i = i} (omega arith) (omega (arith, e, c.loop-i.invariant.0)) in
+          let v = c.loop-i.invariant.1 rows r l e x in
+          let h = c.same_sequence.ensures r q x y in
+          let less = none-next k (twin r) no_row (omega (arith, e)) v.0 in
+          ⊎_elim (λ w. (
+            less (no-twin-here y r (tells-owner x) w.3.left),
+            w.6 ∙ sym (some_next k (conflict r) no_row (omega (arith, e)) (by-sequence x y (λ f. w.3.left (sym f)) (λ f g. ⊎_elim (λ u. omega (arith, g, u.taken)) (λ u. omega (arith, f, ltb-true a.c.kind SHARED u.2.taken)) w.5.came) ∙ sym h ∙ w.0.taken)),
+          ))
+          (⊎_elim (λ w. (less (no-twin-here y r (tells-owner x) w.3.left), w.8 ∙ v.1 ∙ sym (same_next k (conflict r) no_row (omega (arith, e)) (calm-shared x y (omega (arith, ltb-false a.c.kind SHARED w.7.left)) (omega (arith, w.5.left))))))
+          (λ w. let n = no-sequence x y (sym h ∙ w.0.left) in (less n.0, w.1 ∙ v.1 ∙ sym (same_next k (conflict r) no_row (omega (arith, e)) n.1))))
+          c.if-same_sequence.branch,
+    )
+
+pub returns-then-waiting : goal.returns-then-waiting
+unfolding standing_of has_twin waits
+returns-then-waiting c =
+    λ rows r l e x.
+    let s = c.loop-i in
+    let v = s.invariant.1 rows r l e x in
+    let a = take_all s.i rows (omega (arith, e, c.loop-i-test.false)) in
+    let h : any (twin r) rows ≡ false = rw a at v.0 in
+    let w : any (conflict r) rows ≡ true = rw a at (sym v.1 ∙ c.if-waiting.true) in
+    rw (h, w)
+
+pub returns : goal.returns
+unfolding standing_of has_twin waits
+returns c =
+    λ rows r l e x.
+    let s = c.loop-i in
+    let v = s.invariant.1 rows r l e x in
+    let a = take_all s.i rows (omega (arith, e, c.loop-i-test.false)) in
+    let h : any (twin r) rows ≡ false = rw a at v.0 in
+    let w : any (conflict r) rows ≡ false = rw a at (sym v.1 ∙ c.if-waiting.false) in
+    rw (h, w)

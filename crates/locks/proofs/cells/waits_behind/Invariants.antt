@@ -1,0 +1,21 @@
+-- `cells::waits_behind` meets its contract: none of the first i rows conflicts with it. Assumes nothing.
+use Prim.Native.Nat.{◌-◌, ◌≤◌}
+use mathlib.Core.Path.{◌≡◌, refl, sym, ◌∙◌}
+use mathlib.Core.Bool.{false}
+use mathlib.Core.List.{List}
+use native.Mathlib.Omega.{arith}
+use lib.ListN.{length, take, get_or}
+use Rattle.locks.specs.Lists.{any}
+use Rattle.locks.specs.Rows.{no_row, conflict, waits}
+use Rattle.locks.specs.declared.rows.Row.{Row}
+use Rattle.locks.proofs.Loops.{none-next, found, none}
+use Rattle.locks.specs.Cells.{Shows, Tells}
+use Rattle.locks.proofs.Telling.{walk}
+use borrow.Author.Rules.{rules}
+use Rattle.locks.proofs.cells.waits_behind.Given as goal
+
+abbrev pub invariant-loop-i : goal.invariant-loop-i
+invariant-loop-i l = (l.i ≤ l.n) × ((rows : List Row) (q : Row) → Shows l.t rows → l.n ≤ length rows → Tells l.c q → any (conflict q) (take l.i rows) ≡ false)
+
+abbrev pub decreases-loop-i : goal.decreases-loop-i
+decreases-loop-i l = l.n - l.i

@@ -1,0 +1,11 @@
+-- `model::layout::cell_of` meets its contract. Assumes nothing.
+use borrow.Author.Rules.{rules}
+use native.Mathlib.Omega.{arith}
+use Rattle.model.proofs.Putting.{cell-tells}
+use Rattle.model.proofs.layout.cell_of.Goals as goal
+
+pub returns-then-r : goal.returns-then-r
+returns-then-r c = cell-tells c.args.r c.words_of-w.ensures (rw c.if-r.true)
+
+pub returns-else-r : goal.returns-else-r
+returns-else-r c = cell-tells c.args.r c.words_of-w.ensures (rw c.if-r.false (omega arith))

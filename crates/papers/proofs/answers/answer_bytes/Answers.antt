@@ -1,0 +1,26 @@
+-- `papers::answers::answer_bytes` meets its contract. Assumes nothing.
+use borrow.Author.Rules.{rules}
+use Rattle.papers.specs.Answers.{answer_bytes}
+use Rattle.papers.proofs.answers.answer_bytes.Goals as goal
+
+pub returns : goal.returns
+unfolding answer_bytes
+returns c =
+    rw (
+      c.high.ensures,
+      c.high-2.ensures,
+      c.high-3.ensures,
+      c.high-4.ensures,
+      c.high-5.ensures,
+      c.high-6.ensures,
+      c.low.ensures,
+      c.low-2.ensures,
+      c.low-3.ensures,
+      c.low-4.ensures,
+      c.low-5.ensures,
+      c.low-6.ensures,
+      c.high_half-d3_high.ensures,
+      c.low_half-d3_low.ensures,
+      c.high_half-a0_high.ensures,
+      c.low_half-a0_low.ensures,
+    )

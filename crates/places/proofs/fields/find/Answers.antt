@@ -1,0 +1,23 @@
+use Prim.Native.Nat.{◌-◌}
+use native.Mathlib.Omega.{arith}
+use borrow.Author.Rules.{rules}
+use Rattle.places.proofs.Finding.{Seeks, seek-start, seek-next, seek_found, seek-none}
+use Rattle.places.proofs.fields.find.Goals as goal
+
+pub loop-i-init : goal.loop-i-init
+loop-i-init c = seek-start _ _
+
+pub returns-then-of-pid : goal.returns-then-of-pid
+returns-then-of-pid c =
+    let l = c.loop-i-test.true in
+    (omega arith, seek_found c.loop-i.invariant c.requires l c.of.ensures c.if-of-pid.true)
+
+pub loop-i-smaller : goal.loop-i-smaller
+loop-i-smaller c = omega arith
+
+pub loop-i-preserved : goal.loop-i-preserved
+loop-i-preserved c =
+    seek-next c.loop-i.invariant c.requires c.loop-i-test.true c.of.ensures c.if-of-pid.false
+
+pub returns : goal.returns
+returns c = (c.loop-i.invariant.inside, seek-none c.loop-i.invariant c.loop-i-test.false)

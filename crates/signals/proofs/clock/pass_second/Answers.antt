@@ -1,0 +1,18 @@
+use borrow.Author.Rules.{rules}
+use Prim.Native.Nat.{◌-◌}
+use lib.ListN.{get_or}
+use Rattle.rules.specs.Clock.{slept}
+use Rattle.places.specs.Places.{NEXT, USED, procs_in}
+use Rattle.signals.proofs.Passing.{Passing, pass-turn, passed, passing}
+use Rattle.signals.proofs.clock.pass_second.Goals as goal
+
+pub loop-i-init : goal.loop-i-init
+loop-i-init c = passing slept c.requires.procs
+
+pub loop-i-preserved : goal.loop-i-preserved
+loop-i-preserved c =
+    let y = c.lose_second-up.ensures in
+    pass-turn c.loop-i.invariant c.loop-i-test.true y.0 y.1
+
+pub returns : goal.returns
+returns c = passed c.loop-i.invariant c.loop-i-test.false

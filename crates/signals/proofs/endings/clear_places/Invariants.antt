@@ -1,0 +1,22 @@
+use Prim.Native.Nat.{ℕ, ◌-◌, ◌*◌, ◌≤◌}
+use native.Mathlib.Omega.{arith}
+use mathlib.Core.Path.{◌≡◌, ap, ◌∙◌}
+use mathlib.Core.List.{List}
+use lib.ListN.{length, replicate}
+use lib.Seq.{length-paste}
+use Rattle.rules.specs.declared.state.Process.{Process}
+use Rattle.locks.specs.Gaps.{unused}
+use Rattle.locks.proofs.Closing.{unused-none}
+use Rattle.rules.specs.State.{no_process}
+use Rattle.signals.specs.Moved.{Places}
+use Rattle.places.specs.Places.{NUMBERS, PLACE}
+use Rattle.signals.proofs.Moving.{places-more}
+use borrow.Author.Rules.{rules}
+use Rattle.signals.proofs.endings.clear_places.Given as goal
+
+abbrev pub invariant-loop-i : goal.invariant-loop-i
+invariant-loop-i l =
+    (l.k ≤ l.i) × (l.i ≤ l.live) × (length l.m ≡ NUMBERS) × ((ys : List Process) (z : List ℕ) → Places l.initial.m ys z → Places l.m (unused no_process l.k l.i ys) z)
+
+abbrev pub decreases-loop-i : goal.decreases-loop-i
+decreases-loop-i l = l.live - l.i
