@@ -1,6 +1,5 @@
 -- `cells::append` meets its contract. Assumes nothing.
 use Rattle.locks.proofs.Telling.{rows_more}
-use borrow.Author.Rules.{rules}
 use Rattle.locks.proofs.cells.append.Goals as goal
 
 pub returns : goal.returns

@@ -1,16 +1,9 @@
 -- `cells::clear` meets its contract: the cells up to i are those that stay and zeros. Assumes nothing.
-use Prim.Native.Nat.{◌-◌, ◌≤◌}
 use mathlib.Core.Path.{◌≡◌}
-use mathlib.Core.List.{List}
 use native.Mathlib.Omega.{arith}
-use lib.ListN.{length}
-use Rattle.locks.specs.declared.rows.Row.{Row}
 use Rattle.locks.specs.Rows.{no_row}
-use Rattle.locks.specs.Gaps.{Trails, unused}
 use Rattle.locks.proofs.Closing.{unused-none}
 use Rattle.locks.proofs.Gaps.{rest_more, rest-done}
-use Rattle.locks.proofs.Telling.{Cells}
-use borrow.Author.Rules.{rules}
 use Rattle.locks.proofs.cells.clear.Goals as goal
 
 pub loop-i-init : goal.loop-i-init

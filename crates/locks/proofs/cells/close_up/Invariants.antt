@@ -1,16 +1,11 @@
 -- `cells::close_up` meets its contract: those that stay of the first i rows stand first. Assumes nothing.
 use Prim.Native.Nat.{◌-◌, ◌≤◌}
-use mathlib.Core.Path.{◌≡◌, sym, ap, ◌∙◌}
-use mathlib.Core.Bool.{not}
+use mathlib.Core.Path.{◌≡◌}
 use mathlib.Core.List.{List}
-use mathlib.Core.Logic.{⊎_elim}
-use native.Mathlib.Omega.{arith}
-use lib.ListN.{length, take, get_or}
-use Rattle.locks.specs.Rows.{no_row, goes}
+use lib.ListN.{length, take}
 use Rattle.locks.specs.declared.rows.Row.{Row}
 use Rattle.locks.specs.Cells.{Rows, Names, staying}
-use Rattle.locks.proofs.Gaps.{Gap, gap, gone-here, row_moved, row-still, row-gone, closed}
-use borrow.Author.Rules.{rules}
+use Rattle.locks.proofs.Gaps.{Gap}
 use Rattle.locks.proofs.cells.close_up.Given as goal
 
 abbrev pub invariant-loop-i : goal.invariant-loop-i

@@ -1,6 +1,5 @@
 -- `cells::drop_last` meets its contract. Assumes nothing.
 use Rattle.locks.proofs.Telling.{rows-less}
-use borrow.Author.Rules.{rules}
 use Rattle.locks.proofs.cells.drop_last.Goals as goal
 
 pub returns : goal.returns

@@ -1,21 +1,14 @@
 -- `cells::has_twin` meets its contract: none of the first i rows is a twin. Assumes nothing.
-use Prim.Native.Nat.{◌-◌, ◌≤◌}
-use mathlib.Core.Path.{◌≡◌, refl, sym, ap, ◌∙◌}
-use mathlib.Core.Bool.{false}
-use mathlib.Core.List.{List}
-use mathlib.Core.Logic.{⊎_elim}
+use mathlib.Core.Path.{refl, sym, ap, ◌∙◌}
 use native.Mathlib.Omega.{arith}
-use lib.ListN.{length, take}
+use lib.ListN.{length}
 use lib.Seq.{take-length}
 use Rattle.locks.specs.Lists.{any}
 use Rattle.locks.specs.Rows.{no_row, twin, has_twin}
-use Rattle.locks.specs.declared.rows.Row.{Row}
 use Rattle.locks.proofs.Loops.{none-next, found, none}
-use Rattle.locks.specs.Cells.{Shows, Tells}
 use Rattle.locks.proofs.Telling.{walk, tells_row, tells-owner, twin-here, no-twin-here}
-use borrow.Author.Rules.{rules}
 use Rattle.locks.proofs.cells.has_twin.Goals as goal
-use Rattle.locks.proofs.cells.has_twin.Goals.{else-x-c, then-x-c}
+use Rattle.locks.proofs.cells.has_twin.Goals.{then-x-c+else-same_sequence, else-x-c}
 
 pub loop-i-init : goal.loop-i-init
 loop-i-init c = (omega arith, λ rows q l h x. refl)
@@ -33,7 +26,7 @@ loop-i-preserved c =
       omega arith,
       λ rows q l e x.
           none-next (walk rows {n = length rows} (omega arith) (omega (arith, e, c.loop-i.invariant.0))) (twin q) no_row (omega (arith, e)) (c.loop-i.invariant.1 rows q l e x)
-          (elim c.if-x-c.branch [ then-x-c w ↦ sym (twin-here (tells_row l i c.cell_at-x.ensures (omega (arith, e))) q (tells-owner x) w.if-x-c.true x w.1.ensures) ∙ w.2.left | else-x-c w ↦ no-twin-here (tells_row l i c.cell_at-x.ensures (omega (arith, e))) q (tells-owner x) w.if-x-c.false ]),
+          (elim c.if-x-c.branch [ then-x-c+else-same_sequence w ↦ sym (twin-here (tells_row l i c.cell_at-x.ensures (omega (arith, e))) q (tells-owner x) w.if-x-c.true x w.same_sequence.ensures) ∙ w.if-same_sequence.false | else-x-c w ↦ no-twin-here (tells_row l i c.cell_at-x.ensures (omega (arith, e))) q (tells-owner x) w.if-x-c.false ]),
     )
 
 pub returns : goal.returns

@@ -1,19 +1,13 @@
 -- `cells::has_twin` meets its contract: none of the first i rows is a twin. Assumes nothing.
 use Prim.Native.Nat.{◌-◌, ◌≤◌}
-use mathlib.Core.Path.{◌≡◌, refl, sym, ap, ◌∙◌}
+use mathlib.Core.Path.{◌≡◌}
 use mathlib.Core.Bool.{false}
 use mathlib.Core.List.{List}
-use mathlib.Core.Logic.{⊎_elim}
-use native.Mathlib.Omega.{arith}
 use lib.ListN.{length, take}
-use lib.Seq.{take-length}
 use Rattle.locks.specs.Lists.{any}
-use Rattle.locks.specs.Rows.{no_row, twin, has_twin}
+use Rattle.locks.specs.Rows.{twin}
 use Rattle.locks.specs.declared.rows.Row.{Row}
-use Rattle.locks.proofs.Loops.{none-next, found, none}
 use Rattle.locks.specs.Cells.{Shows, Tells}
-use Rattle.locks.proofs.Telling.{walk, tells_row, tells-owner, twin-here, no-twin-here}
-use borrow.Author.Rules.{rules}
 use Rattle.locks.proofs.cells.has_twin.Given as goal
 
 abbrev pub invariant-loop-i : goal.invariant-loop-i

@@ -5,7 +5,6 @@ use Rattle.locks.proofs.Telling.{tells-owner}
 use Rattle.locks.proofs.Gaps.{by-none}
 use Rattle.locks.specs.Rows.{goes, twin, waits_of}
 use borrow.Author.Tests.{eq-eqb}
-use borrow.Author.Rules.{rules}
 use Rattle.locks.proofs.cells.is_gone.Goals as goal
 
 pub returns-then-x-c : goal.returns-then-x-c
@@ -16,14 +15,14 @@ returns-then-x-c c =
 pub returns-in-Twin : goal.returns-in-Twin
 unfolding goes twin
 returns-in-Twin c =
-    let e = c.enum_told-1.is in
+    let e = c.in-Twin.is in
     λ rows r q l h n x. rw (e, eq-eqb q.owner r.owner (sym (tells-owner x) ∙ c.if-x-c.false ∙ n.owner)) (c.same_sequence.ensures r q (n.whole e) x)
 
 pub returns-in-All : goal.returns-in-All
 unfolding goes
-returns-in-All c = λ rows r q l h n x. rw (c.enum_told-in-All-1.is, eq-eqb q.owner r.owner (sym (tells-owner x) ∙ c.if-x-c.false ∙ n.owner))
+returns-in-All c = λ rows r q l h n x. rw (c.in-All.is, eq-eqb q.owner r.owner (sym (tells-owner x) ∙ c.if-x-c.false ∙ n.owner))
 
 pub returns-in-Waiting : goal.returns-in-Waiting
 unfolding goes waits_of
 returns-in-Waiting c = λ rows r q l h n x.
-    rw (c.enum_told-in-Waiting-1.is, eq-eqb q.owner r.owner (sym (tells-owner x) ∙ c.if-x-c.false ∙ n.owner)) (c.waits_behind.ensures rows q l h x)
+    rw (c.in-Waiting.is, eq-eqb q.owner r.owner (sym (tells-owner x) ∙ c.if-x-c.false ∙ n.owner)) (c.waits_behind.ensures rows q l h x)

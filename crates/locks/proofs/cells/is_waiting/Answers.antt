@@ -1,19 +1,16 @@
 -- `cells::is_waiting` meets its contract: no row from place i on is one that waits. Assumes nothing.
-use Prim.Native.Nat.{◌-◌, ◌≤◌}
+use Prim.Native.Nat.{◌-◌}
 use mathlib.Core.Path.{◌≡◌, sym, ap, ◌∙◌}
 use mathlib.Core.Bool.{not}
-use mathlib.Core.List.{List, []}
+use mathlib.Core.List.{[]}
 use native.Mathlib.Omega.{arith}
 use lib.ListN.{length}
-use Rattle.locks.specs.declared.rows.Row.{Row}
 use lib.Seq.{take_all}
 use Rattle.locks.specs.Lists.{sift}
 use Rattle.locks.specs.Rows.{no_row, waits_of, waiting_of}
-use Rattle.locks.proofs.Loops.{sifted, last-passes, last_goes}
+use Rattle.locks.proofs.Loops.{last-passes, last_goes}
 use borrow.Author.Tests.{ne_eqb}
-use Rattle.locks.specs.Cells.{Shows}
 use Rattle.locks.proofs.Telling.{walk, waits-here, other-here}
-use borrow.Author.Rules.{rules}
 use Rattle.locks.proofs.cells.is_waiting.Goals as goal
 
 pub loop-i-init : goal.loop-i-init

@@ -1,19 +1,12 @@
 -- `cells::is_waiting` meets its contract: no row from place i on is one that waits. Assumes nothing.
-use Prim.Native.Nat.{◌-◌, ◌≤◌}
-use mathlib.Core.Path.{◌≡◌, sym, ap, ◌∙◌}
-use mathlib.Core.Bool.{not}
-use mathlib.Core.List.{List, []}
-use native.Mathlib.Omega.{arith}
+use Prim.Native.Nat.{◌≤◌}
+use mathlib.Core.Path.{◌≡◌}
+use mathlib.Core.List.{List}
 use lib.ListN.{length}
 use Rattle.locks.specs.declared.rows.Row.{Row}
-use lib.Seq.{take_all}
-use Rattle.locks.specs.Lists.{sift}
-use Rattle.locks.specs.Rows.{no_row, waits_of, waiting_of}
-use Rattle.locks.proofs.Loops.{sifted, last-passes, last_goes}
-use borrow.Author.Tests.{ne_eqb}
+use Rattle.locks.specs.Rows.{waits_of, waiting_of}
+use Rattle.locks.proofs.Loops.{sifted}
 use Rattle.locks.specs.Cells.{Shows}
-use Rattle.locks.proofs.Telling.{walk, waits-here, other-here}
-use borrow.Author.Rules.{rules}
 use Rattle.locks.proofs.cells.is_waiting.Given as goal
 
 abbrev pub invariant-loop-i : goal.invariant-loop-i

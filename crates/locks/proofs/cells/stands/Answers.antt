@@ -1,21 +1,15 @@
 -- `cells::stands` meets its contract: none of the first i rows is a twin, and waiting says whether one conflicts. Assumes nothing.
-use Prim.Native.Nat.{◌-◌, ◌≤◌}
 use mathlib.Core.Path.{◌≡◌, refl, sym, ap, ◌∙◌}
 use mathlib.Core.Bool.{false, true}
-use mathlib.Core.List.{List}
-use mathlib.Core.Logic.{⊎_elim}
 use native.Mathlib.Omega.{arith}
-use lib.ListN.{length, take, get_or}
+use lib.ListN.{length, get_or}
 use lib.Seq.{take_all, take-length}
 use Rattle.locks.specs.Lists.{any}
 use Rattle.locks.specs.Rows.{no_row, twin, has_twin, conflict, waits, standing_of}
-use Rattle.locks.specs.declared.rows.Row.{Row}
 use Rattle.locks.proofs.Loops.{some_next, same_next, none-next, found}
-use Rattle.locks.specs.Cells.{SHARED, Shows, Tells}
 use Rattle.locks.proofs.Telling.{walk, tells_row, tells-owner, twin-here, no-twin-here, no-sequence, by-sequence, calm-shared}
-use borrow.Author.Rules.{rules}
-use borrow.Author.Tests.{ltb-true, ltb-false}
 use Rattle.locks.proofs.cells.stands.Goals as goal
+use Rattle.locks.proofs.cells.stands.Goals.{then-same_sequence+else-x-c+then-x-lt-SHARED, then-x-lt-SHARED-via-then-x-lt-SHARED, then-x-lt-SHARED-via-else-x-lt-SHARED+then-c-lt-SHARED, then-same_sequence+else-x-c+else-x-lt-SHARED+else-c-lt-SHARED, else-same_sequence}
 
 pub loop-i-init : goal.loop-i-init
 loop-i-init c = (omega arith, λ rows r l e x. (refl, refl))
@@ -42,13 +36,15 @@ loop-i-preserved c =
           let v = c.loop-i.invariant.1 rows r l e x in
           let h = c.same_sequence.ensures r q x y in
           let less = none-next k (twin r) no_row (omega (arith, e)) v.0 in
-          ⊎_elim (λ w. (
-            less (no-twin-here y r (tells-owner x) w.3.left),
-            w.6 ∙ sym (some_next k (conflict r) no_row (omega (arith, e)) (by-sequence x y (λ f. w.3.left (sym f)) (λ f g. ⊎_elim (λ u. omega (arith, g, u.taken)) (λ u. omega (arith, f, ltb-true a.c.kind SHARED u.2.taken)) w.5.came) ∙ sym h ∙ w.0.taken)),
-          ))
-          (⊎_elim (λ w. (less (no-twin-here y r (tells-owner x) w.3.left), w.8 ∙ v.1 ∙ sym (same_next k (conflict r) no_row (omega (arith, e)) (calm-shared x y (omega (arith, ltb-false a.c.kind SHARED w.7.left)) (omega (arith, w.5.left))))))
-          (λ w. let n = no-sequence x y (sym h ∙ w.0.left) in (less n.0, w.1 ∙ v.1 ∙ sym (same_next k (conflict r) no_row (omega (arith, e)) n.1))))
-          c.if-same_sequence.branch,
+          elim c.if-same_sequence.branch [
+            | then-same_sequence+else-x-c+then-x-lt-SHARED w ↦ (
+              less (no-twin-here y r (tells-owner x) w.if-x-c.false),
+              w.waiting-is ∙ sym (some_next k (conflict r) no_row (omega (arith, e)) (by-sequence x y (λ f. w.if-x-c.false (sym f)) (λ f g.
+                  elim w.then-x-lt-SHARED.branch [ then-x-lt-SHARED-via-then-x-lt-SHARED u ↦ omega arith | then-x-lt-SHARED-via-else-x-lt-SHARED+then-c-lt-SHARED u ↦ omega arith ]) ∙ sym h ∙ w.if-same_sequence.true)),
+            )
+            | then-same_sequence+else-x-c+else-x-lt-SHARED+else-c-lt-SHARED w ↦ (less (no-twin-here y r (tells-owner x) w.if-x-c.false), w.waiting-is ∙ v.1 ∙ sym (same_next k (conflict r) no_row (omega (arith, e)) (calm-shared x y (omega arith) (omega arith))))
+            | else-same_sequence w ↦ let n = no-sequence x y (sym h ∙ w.if-same_sequence.false) in (less n.0, w.waiting-is ∙ v.1 ∙ sym (same_next k (conflict r) no_row (omega (arith, e)) n.1))
+          ],
     )
 
 pub returns-then-waiting : goal.returns-then-waiting

@@ -1,20 +1,13 @@
 -- `cells::stands` meets its contract: none of the first i rows is a twin, and waiting says whether one conflicts. Assumes nothing.
 use Prim.Native.Nat.{◌-◌, ◌≤◌}
-use mathlib.Core.Path.{◌≡◌, refl, sym, ap, ◌∙◌}
-use mathlib.Core.Bool.{false, true}
+use mathlib.Core.Path.{◌≡◌}
+use mathlib.Core.Bool.{false}
 use mathlib.Core.List.{List}
-use mathlib.Core.Logic.{⊎_elim}
-use native.Mathlib.Omega.{arith}
-use lib.ListN.{length, take, get_or}
-use lib.Seq.{take_all, take-length}
+use lib.ListN.{length, take}
 use Rattle.locks.specs.Lists.{any}
-use Rattle.locks.specs.Rows.{no_row, twin, has_twin, conflict, waits, standing_of}
+use Rattle.locks.specs.Rows.{twin, conflict}
 use Rattle.locks.specs.declared.rows.Row.{Row}
-use Rattle.locks.proofs.Loops.{some_next, same_next, none-next, found}
-use Rattle.locks.specs.Cells.{SHARED, Shows, Tells}
-use Rattle.locks.proofs.Telling.{walk, tells_row, tells-owner, twin-here, no-twin-here, no-sequence, by-sequence, calm-shared}
-use borrow.Author.Rules.{rules}
-use borrow.Author.Tests.{ltb-true, ltb-false}
+use Rattle.locks.specs.Cells.{Shows, Tells}
 use Rattle.locks.proofs.cells.stands.Given as goal
 
 abbrev pub invariant-loop-i : goal.invariant-loop-i

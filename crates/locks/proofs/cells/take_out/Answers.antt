@@ -6,7 +6,6 @@ use native.Mathlib.Nat.{le_trans}
 use Rattle.locks.specs.Rows.{goes}
 use Rattle.locks.proofs.Fewer.{fewer-sift, fewer-all, fewer-length}
 use Rattle.locks.specs.Cells.{whole_row, staying}
-use borrow.Author.Rules.{rules}
 use Rattle.locks.proofs.cells.take_out.Goals as goal
 
 pub returns : goal.returns

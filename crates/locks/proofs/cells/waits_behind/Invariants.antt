@@ -1,17 +1,13 @@
 -- `cells::waits_behind` meets its contract: none of the first i rows conflicts with it. Assumes nothing.
 use Prim.Native.Nat.{◌-◌, ◌≤◌}
-use mathlib.Core.Path.{◌≡◌, refl, sym, ◌∙◌}
+use mathlib.Core.Path.{◌≡◌}
 use mathlib.Core.Bool.{false}
 use mathlib.Core.List.{List}
-use native.Mathlib.Omega.{arith}
-use lib.ListN.{length, take, get_or}
+use lib.ListN.{length, take}
 use Rattle.locks.specs.Lists.{any}
-use Rattle.locks.specs.Rows.{no_row, conflict, waits}
+use Rattle.locks.specs.Rows.{conflict}
 use Rattle.locks.specs.declared.rows.Row.{Row}
-use Rattle.locks.proofs.Loops.{none-next, found, none}
 use Rattle.locks.specs.Cells.{Shows, Tells}
-use Rattle.locks.proofs.Telling.{walk}
-use borrow.Author.Rules.{rules}
 use Rattle.locks.proofs.cells.waits_behind.Given as goal
 
 abbrev pub invariant-loop-i : goal.invariant-loop-i

@@ -14,7 +14,7 @@ use Rattle.locks.proofs.words.words_of.Goals as goal
 
 pub returns : goal.returns
 returns c =
-    let x = c.args.t1 in
+    let x = c.args.b in
     let n : length x ≡ 16 = search rules in
     let h : (i : ℕ) → Fits w8 (get_or x i 0) = λ i. search rules in
     record {
