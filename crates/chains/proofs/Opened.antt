@@ -102,10 +102,15 @@ module _ {t : List ℕ} {last : ℕ} {To : ℕ → ℕ → Type 0} where
 
 -- ---- the end
 
+-- nobody was opened before: then no chain leads from one that leads to opened ones only to v, the owner of the last row
+no_way-to : {t : List ℕ} {last v : ℕ} {o r : List Bool} → ((k : ℕ) → get_or o k false ≡ true → ⊥) → Grown t last o r
+    → (p : ℕ) → ((q : ℕ) → Leads t last p q → Passed t last r q) → Chain (Leads t last) p v → v ≡ owner_at t last → ⊥
+no_way-to n g p on (one l) e = (on _ l).other e
+no_way-to n g p on (more {b = q} l d) e =
+    let s = on q l in
+    no_way-to n g q (λ x f. ⊎_elim (λ h. absurd (n s.row h)) (λ f'. f' x (rw s.own f)) (g.closed s.row s.mark)) d e
+
 -- nobody was opened before: then no chain leads from one that leads to opened ones only to the owner of the last row
 pub no_way : {t : List ℕ} {last : ℕ} {o r : List Bool} → ((k : ℕ) → get_or o k false ≡ true → ⊥) → Grown t last o r
     → (p : ℕ) → ((q : ℕ) → Leads t last p q → Passed t last r q) → Chain (Leads t last) p (owner_at t last) → ⊥
-no_way n g p on (one l) = (on _ l).other refl
-no_way n g p on (more {b = q} l d) =
-    let s = on q l in
-    no_way n g q (λ x f. ⊎_elim (λ h. absurd (n s.row h)) (λ f'. f' x (rw s.own f)) (g.closed s.row s.mark)) d
+no_way n g p on d = no_way-to n g p on d refl

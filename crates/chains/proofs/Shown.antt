@@ -13,7 +13,7 @@ use Rattle.locks.proofs.Tests.{cases}
 use Rattle.locks.proofs.Telling.{tells-owner}
 use Rattle.chains.specs.Chains.{Link, Chain}
 use Rattle.chains.proofs.Chains.{chain-map}
-use Rattle.locks.specs.Cells.{CELLS, OWNER, Shows, Tells, cell_at, words}
+use Rattle.locks.specs.Cells.{CELLS, Shows, Tells, cell_at}
 use Rattle.chains.specs.Search.{owner_at, Shown, Leads, Searched}
 use Rattle.locks.specs.declared.cells.Cell.{Cell}
 use Rattle.chains.proofs.Opened.{no_way}

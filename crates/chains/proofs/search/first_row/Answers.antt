@@ -1,10 +1,8 @@
 -- `chains::search::first_row` meets its contract: none before i is that owner's. Assumes nothing.
 use borrow.Author.Rules.{rules}
-use Prim.Native.Nat.{ℕ, ◌-◌, ◌<◌, ◌≤◌}
 use native.Mathlib.Omega.{arith}
-use mathlib.Core.Path.{◌≡◌, refl}
+use mathlib.Core.Path.{refl}
 use borrow.Author.Count.{below_none, below_more}
-use Rattle.chains.specs.Search.{owner_at}
 use Rattle.chains.proofs.search.first_row.Goals as goal
 
 pub loop-i-init : goal.loop-i-init

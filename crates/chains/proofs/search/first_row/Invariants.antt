@@ -1,9 +1,6 @@
 -- `chains::search::first_row` meets its contract: none before i is that owner's. Assumes nothing.
-use borrow.Author.Rules.{rules}
 use Prim.Native.Nat.{ℕ, ◌-◌, ◌<◌, ◌≤◌}
-use native.Mathlib.Omega.{arith}
-use mathlib.Core.Path.{◌≡◌, refl}
-use borrow.Author.Count.{below_none, below_more}
+use mathlib.Core.Path.{◌≡◌}
 use Rattle.chains.specs.Search.{owner_at}
 use Rattle.chains.proofs.search.first_row.Given as goal
 
