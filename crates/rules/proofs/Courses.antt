@@ -204,7 +204,7 @@ passed-all s r e =
 -- the first of the steps to come are taken
 passes : {s : State} {e : Event} {m : Machine} (us vs : List Step) → During s e m (us ++ vs) → During s e (passed us m) vs
 passes [] vs d = d
-passes (t ∷ us) vs d = passes us vs (goes d)
+passes {s = s} {e = e} {m = m} (t ∷ us) vs d = passes {s = s} {e = e} {m = after t m} us vs (goes d)
 
 leads : (s : State) → Reached s → (e : Event) → During s e (view (step_of s e).state) []
 leads s r e =
