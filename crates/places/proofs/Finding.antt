@@ -9,7 +9,7 @@ use lib.ListN.{length, get_or, take, length-map, get_or-map}
 use lib.Seq.{take_all}
 use borrow.Author.Tests.{ne_eqb}
 use Rattle.locks.specs.Lists.{member}
-use Rattle.locks.proofs.Loops.{Walk, none-next, none}
+use Rattle.locks.proofs.Loops.{Walk, none-next}
 use Rattle.rules.specs.State.{no_process, new_process, pids}
 use Rattle.rules.specs.declared.state.Process.{Process}
 use Rattle.places.specs.Places.{place_of}

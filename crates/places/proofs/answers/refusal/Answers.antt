@@ -4,7 +4,6 @@ use native.Mathlib.Omega.{arith}
 use mathlib.Core.List.{[], ◌∷◌}
 use mathlib.Core.Path.{◌≡◌, ap, ◌∙◌}
 use Rattle.places.proofs.Replies.{all-four}
-use borrow.Author.Rules.{rules}
 use Rattle.places.proofs.answers.refusal.Goals as goal
 
 pub returns : goal.returns

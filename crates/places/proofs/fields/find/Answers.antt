@@ -1,7 +1,5 @@
-use Prim.Native.Nat.{◌-◌}
 use native.Mathlib.Omega.{arith}
-use borrow.Author.Rules.{rules}
-use Rattle.places.proofs.Finding.{Seeks, seek-start, seek-next, seek_found, seek-none}
+use Rattle.places.proofs.Finding.{seek-start, seek-next, seek_found, seek-none}
 use Rattle.places.proofs.fields.find.Goals as goal
 
 pub loop-i-init : goal.loop-i-init

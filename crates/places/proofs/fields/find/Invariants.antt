@@ -1,7 +1,5 @@
 use Prim.Native.Nat.{◌-◌}
-use native.Mathlib.Omega.{arith}
-use borrow.Author.Rules.{rules}
-use Rattle.places.proofs.Finding.{Seeks, seek-start, seek-next, seek_found, seek-none}
+use Rattle.places.proofs.Finding.{Seeks}
 use Rattle.places.proofs.fields.find.Given as goal
 
 abbrev pub invariant-loop-i : goal.invariant-loop-i
