@@ -3,7 +3,7 @@ use Prim.Native.Nat.{ℕ, zero, suc, ◌+◌, ◌*◌, ◌/◌, ◌%◌, ◌≤�
 use native.Mathlib.Nat.{add_assoc, add-zero, div-add-mod'}
 use native.Mathlib.Numerals.{add-one}
 use native.Mathlib.Omega.{arith}
-use mathlib.Core.Path.{◌≡◌, refl, sym, ap}
+use mathlib.Core.Path.{◌≡◌, refl, sym, ap, ◌∙◌}
 use mathlib.Core.Bool.{Bool, true}
 use mathlib.Core.List.{List, [], ◌∷◌, ◌++◌, map, append_assoc}
 use lib.ListN.{length, get_or, take, drop, length-append, length-take, get_or-eq_default}
@@ -123,7 +123,8 @@ pub entries-back : (h r : List ℕ) (es : List Entry) → entries_from (h ++ (jo
 entries-back h r [] = refl
 entries-back h r (e ∷ es) =
     let k = rw (append_assoc, length-append, entry-long e) at (entries-back (h ++ entry_bytes e) r es) in
-    rw (append_assoc (entry_bytes e) (joined (map entry_bytes es)) r, entry-behind h (entry_bytes e ++ (joined (map entry_bytes es) ++ r)), entry_first e (joined (map entry_bytes es) ++ r), k)
+    ap (λ y. entries_from (h ++ y) (length h) (suc (length es))) (append_assoc (entry_bytes e) (joined (map entry_bytes es)) r)
+    ∙ rw (entry-behind h (entry_bytes e ++ (joined (map entry_bytes es) ++ r)), entry_first e (joined (map entry_bytes es) ++ r), k)
 
 -- ---- the names of a paper's events
 

@@ -1,5 +1,4 @@
 -- `papers::answers::answer_bytes` meets its contract. Assumes nothing.
-use borrow.Author.Rules.{rules}
 use Rattle.papers.specs.Answers.{answer_bytes}
 use Rattle.papers.proofs.answers.answer_bytes.Goals as goal
 

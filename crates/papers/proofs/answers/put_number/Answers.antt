@@ -1,5 +1,4 @@
 -- `papers::answers::put_number` meets its contract. Assumes nothing.
-use borrow.Author.Rules.{rules}
 use native.Mathlib.Omega.{arith}
 use lib.ListN.{length-set}
 use Rattle.papers.proofs.Replies.{put_four}

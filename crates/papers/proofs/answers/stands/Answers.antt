@@ -1,5 +1,4 @@
 -- `papers::answers::stands` meets its contract. Assumes nothing.
-use borrow.Author.Rules.{rules}
 use Rattle.papers.proofs.Replies.{stands-agree}
 use Rattle.papers.proofs.answers.stands.Goals as goal
 

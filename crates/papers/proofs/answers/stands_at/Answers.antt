@@ -1,5 +1,4 @@
 -- `papers::answers::stands_at` meets its contract. Assumes nothing.
-use borrow.Author.Rules.{rules}
 use mathlib.Core.Path.{◌∙◌, ap}
 use Rattle.locks.specs.Lists.{agree}
 use Rattle.papers.specs.Bytes.{run}

@@ -1,5 +1,4 @@
 -- `papers::bytes::byte` meets its contract. Assumes nothing.
-use borrow.Author.Rules.{rules}
 use mathlib.Core.Path.{sym}
 use lib.ListN.{get_or-eq_default}
 use Rattle.papers.proofs.bytes.byte.Goals as goal

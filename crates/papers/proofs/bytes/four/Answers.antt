@@ -1,5 +1,4 @@
 -- `papers::bytes::four` meets its contract. Assumes nothing.
-use borrow.Author.Rules.{rules}
 use Rattle.papers.specs.Bytes.{number32}
 use Rattle.papers.proofs.bytes.four.Goals as goal
 

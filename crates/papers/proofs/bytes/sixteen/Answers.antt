@@ -1,11 +1,9 @@
 -- `papers::bytes::sixteen` meets its contract. Assumes nothing.
 use borrow.Author.Rules.{rules}
-use Prim.Native.Nat.{◌-◌, ◌≤◌}
 use mathlib.Core.Path.{◌≡◌, sym, ◌∙◌}
 use native.Mathlib.Omega.{arith}
-use lib.ListN.{length, take, length-set}
+use lib.ListN.{length-set}
 use lib.Seq.{take_all}
-use Rattle.papers.specs.Bytes.{run}
 use Rattle.papers.proofs.Runs.{run-put}
 use Rattle.papers.proofs.bytes.sixteen.Goals as goal
 

@@ -1,12 +1,8 @@
 -- `papers::bytes::sixteen` meets its contract. Assumes nothing.
-use borrow.Author.Rules.{rules}
 use Prim.Native.Nat.{◌-◌, ◌≤◌}
-use mathlib.Core.Path.{◌≡◌, sym, ◌∙◌}
-use native.Mathlib.Omega.{arith}
-use lib.ListN.{length, take, length-set}
-use lib.Seq.{take_all}
+use mathlib.Core.Path.{◌≡◌}
+use lib.ListN.{length, take}
 use Rattle.papers.specs.Bytes.{run}
-use Rattle.papers.proofs.Runs.{run-put}
 use Rattle.papers.proofs.bytes.sixteen.Given as goal
 
 abbrev pub invariant-loop-i : goal.invariant-loop-i

@@ -1,5 +1,4 @@
 -- `papers::bytes::sixteen_within` meets its contract. Assumes nothing.
-use borrow.Author.Rules.{rules}
 use mathlib.Core.Path.{sym}
 use Rattle.papers.proofs.Runs.{run-sixteen}
 use Rattle.papers.proofs.bytes.sixteen_within.Goals as goal

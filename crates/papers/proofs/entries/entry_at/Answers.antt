@@ -1,5 +1,4 @@
 -- `papers::entries::entry_at` meets its contract. Assumes nothing.
-use borrow.Author.Rules.{rules}
 use Rattle.papers.specs.Entries.{entry_at}
 use Rattle.papers.proofs.entries.entry_at.Goals as goal
 

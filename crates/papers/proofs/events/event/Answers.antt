@@ -1,5 +1,4 @@
 -- `papers::events::event` meets its contract. Assumes nothing.
-use borrow.Author.Rules.{rules}
 use Rattle.papers.specs.Events.{event_at}
 use Rattle.papers.proofs.events.event.Goals as goal
 

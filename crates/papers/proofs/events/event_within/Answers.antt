@@ -1,5 +1,4 @@
 -- `papers::events::event_within` meets its contract. Assumes nothing.
-use borrow.Author.Rules.{rules}
 use Rattle.papers.specs.Entries.{entry_at}
 use Rattle.papers.specs.Events.{event_at}
 use Rattle.papers.proofs.events.event_within.Goals as goal

@@ -1,5 +1,4 @@
 -- `papers::events::sequence` meets its contract. Assumes nothing.
-use borrow.Author.Rules.{rules}
 use Rattle.papers.specs.Events.{sequence_of}
 use Rattle.papers.proofs.Runs.{sequence-at}
 use Rattle.papers.proofs.events.sequence.Goals as goal

@@ -1,6 +1,5 @@
 -- `papers::layout::first_of` meets its contract. Assumes nothing.
-use borrow.Author.Rules.{rules}
 use Rattle.papers.proofs.layout.first_of.Goals as goal
 
 pub returns-in-Broken : goal.returns-in-Broken
-returns-in-Broken c = rw c.ahead-1.is
+returns-in-Broken c = rw c.in-Broken.is

@@ -1,5 +1,4 @@
 -- `papers::layout::header` meets its contract. Assumes nothing.
-use borrow.Author.Rules.{rules}
 use mathlib.Core.Path.{◌∙◌}
 use mathlib.Core.List.{[], ◌∷◌}
 use Rattle.papers.proofs.Fields.{onward-order}

@@ -1,20 +1,21 @@
 -- `papers::layout::names` meets its contract. Assumes nothing.
 use borrow.Author.Rules.{rules}
-use Prim.Native.Nat.{◌+◌, ◌-◌, ◌*◌, ◌≤◌}
+use Prim.Native.Nat.{ℕ, ◌+◌, ◌-◌, ◌*◌, ◌<◌}
+use mathlib.Core.List.{List}
+use mathlib.Core.Bool.{true}
 use mathlib.Core.Path.{◌≡◌, sym, ◌∙◌}
 use native.Mathlib.Omega.{arith}
-use Rattle.papers.specs.Fields.{first_of, first_broken, name_rules}
+use Rattle.papers.specs.Bytes.{number16}
+use Rattle.papers.specs.Fields.{rule, tested, first_of, first_broken, name_rules}
+use Rattle.papers.specs.declared.layout.Field.{Field}
 use Rattle.papers.proofs.Fields.{names_at}
 use Rattle.papers.proofs.layout.names.Goals as goal
 
 -- in a turn: the event at hand, and what is left after it
-turn : (c : tie.After-read-field invariant-loop decreases-loop)
-    → (let i = c.before.before.loop.i in let a = c.before.before.before.before.before.args in
-    first_broken a.p.now (name_rules a.p.now 12 a.n) ≡ first_of c.read-field.result (first_broken a.p.now (name_rules a.p.now (12 + 20 * (i + 1)) (a.n - (i + 1)))))
-turn c =
-    let l = c.before.before.loop in
-    let a = c.before.before.before.before.before.args in
-    rw (c.read-field.ensures, c.before.before.before.number.ensures) (l.invariant.1 ∙ names_at a.p.now a.n l.i (omega arith))
+turn : (p : List ℕ) (n i most : ℕ) {f : Field} → f ≡ tested p (rule (12 + 20 * i + 18) 0 most true) → most ≡ number16 p 6 → i < n
+    → first_broken p (name_rules p 12 n) ≡ first_broken p (name_rules p (12 + 20 * i) (n - i))
+    → first_broken p (name_rules p 12 n) ≡ first_of f (first_broken p (name_rules p (12 + 20 * (i + 1)) (n - (i + 1))))
+turn p n i most e m l h = rw (e, m) (h ∙ names_at p n i l)
 
 pub loop-i-init : goal.loop-i-init
 loop-i-init c =
@@ -22,10 +23,10 @@ loop-i-init c =
     (search rules, rw z)
 
 pub returns-in-Broken : goal.returns-in-Broken
-returns-in-Broken c = sym (rw c.name-1.is at (turn c))
+returns-in-Broken c = sym (turn c.args.p.now c.args.n c.loop-i.i _ c.in-Broken.ensures c.number-most.ensures (omega arith) c.loop-i.invariant.1)
 
 pub loop-i-preserved : goal.loop-i-preserved
-loop-i-preserved c = (search rules, rw c.enum_told-1.is at (turn c))
+loop-i-preserved c = (search rules, turn c.args.p.now c.args.n c.loop-i.i _ (sym c.in_default.is ∙ c.read_field-name.ensures) c.number-most.ensures (omega arith) c.loop-i.invariant.1)
 
 pub returns : goal.returns
 returns c =

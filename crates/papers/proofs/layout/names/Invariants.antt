@@ -1,10 +1,7 @@
 -- `papers::layout::names` meets its contract. Assumes nothing.
-use borrow.Author.Rules.{rules}
 use Prim.Native.Nat.{◌+◌, ◌-◌, ◌*◌, ◌≤◌}
-use mathlib.Core.Path.{◌≡◌, sym, ◌∙◌}
-use native.Mathlib.Omega.{arith}
-use Rattle.papers.specs.Fields.{first_of, first_broken, name_rules}
-use Rattle.papers.proofs.Fields.{names_at}
+use mathlib.Core.Path.{◌≡◌}
+use Rattle.papers.specs.Fields.{first_broken, name_rules}
 use Rattle.papers.proofs.layout.names.Given as goal
 
 abbrev pub invariant-loop-i : goal.invariant-loop-i

@@ -1,5 +1,4 @@
 -- `papers::layout::read_field` meets its contract. Assumes nothing.
-use borrow.Author.Rules.{rules}
 use Rattle.papers.specs.Layout.{field}
 use Rattle.papers.specs.Fields.{tested}
 use Rattle.papers.proofs.layout.read_field.Goals as goal
