@@ -1,6 +1,6 @@
 -- Rows as the code holds them, and the rows that wait, found once for all processes. Assumes nothing.
 use Rattle.std.specs.Prelude.{ℕ, ◌≤◌, ◌<◌, ◌≡◌, Bool, true, false, cond, ◌&&◌, List, [], map, eqb, length, get_or, take}
-use Rattle.locks.specs.Lists.{any, all, member, sift}
+use Rattle.locks.specs.Lists.{any, all, sift}
 use Rattle.locks.specs.Rows.{twin, waits, apart}
 use Rattle.locks.specs.Words.{fit_row, Note}
 use Rattle.locks.specs.declared.rows.Row.{Row}

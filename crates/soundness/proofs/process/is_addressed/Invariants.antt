@@ -1,10 +1,6 @@
 -- `soundness::process::is_addressed` meets its contract: the traps before place i fit. Assumes nothing.
-use borrow.Author.Rules.{rules}
 use Prim.Native.Nat.{◌-◌}
-use mathlib.Core.Path.{sym}
-use mathlib.Core.Logic.{⊎_elim}
-use borrow.Author.Tests.{eq-eqb, ne_eqb}
-use Rattle.soundness.proofs.Laws.{Trapping, trapping, trap-fits, trap-fails, trapped}
+use Rattle.soundness.proofs.Laws.{Trapping}
 use Rattle.soundness.proofs.process.is_addressed.Given as goal
 
 abbrev pub invariant-loop-i : goal.invariant-loop-i

@@ -1,5 +1,4 @@
 -- `soundness::process::reactions_fit` meets its contract. Assumes nothing.
-use borrow.Author.Rules.{rules}
 use mathlib.Core.Bool.{and_assoc, and-true}
 use Rattle.rules.specs.Sound.{reactions_fit}
 use Rattle.soundness.proofs.process.reactions_fit.Goals as goal

@@ -1,12 +1,6 @@
 -- `soundness::process::seven_zeros` meets its contract: the elements before place i are summed. Assumes nothing.
-use borrow.Author.Rules.{rules}
-use Prim.Native.Nat.{◌-◌, ◌*◌, ◌≤◌, ◌<◌}
-use native.Mathlib.Omega.{arith}
-use mathlib.Core.Path.{◌≡◌, sym}
-use lib.ListN.{length, get_or}
-use mir.Val.{Fits}
-use mir.Syntax.{w32}
-use Rattle.soundness.proofs.Loops.{Summing, sum-start, sum-add, sum-end}
+use Prim.Native.Nat.{◌-◌, ◌*◌, ◌≤◌}
+use Rattle.soundness.proofs.Loops.{Summing}
 use Rattle.soundness.proofs.process.seven_zeros.Given as goal
 
 abbrev pub invariant-loop-i : goal.invariant-loop-i

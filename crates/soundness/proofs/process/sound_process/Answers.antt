@@ -1,5 +1,4 @@
 -- `soundness::process::sound_process` meets its contract. Assumes nothing.
-use borrow.Author.Rules.{rules}
 use Rattle.rules.specs.Sound.{quiet}
 use Rattle.soundness.specs.Waiting.{sound_waiting}
 use Rattle.soundness.proofs.process.sound_process.Goals as goal

@@ -1,5 +1,4 @@
 -- `soundness::process::traps_fit` meets its contract. Assumes nothing.
-use borrow.Author.Rules.{rules}
 use Rattle.rules.specs.Sound.{traps_fit}
 use Rattle.soundness.proofs.process.traps_fit.Goals as goal
 

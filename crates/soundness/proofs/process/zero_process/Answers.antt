@@ -1,5 +1,4 @@
 -- `soundness::process::zero_process` meets its contract. Assumes nothing.
-use borrow.Author.Rules.{rules}
 use Rattle.rules.specs.Sound.{zero_process}
 use Rattle.soundness.proofs.process.zero_process.Goals as goal
 

@@ -1,5 +1,4 @@
 -- `soundness::process::zero_signals` meets its contract. Assumes nothing.
-use borrow.Author.Rules.{rules}
 use Rattle.soundness.proofs.process.zero_signals.Goals as goal
 
 pub returns : goal.returns

@@ -1,14 +1,10 @@
 -- `soundness::rows::among` meets its contract: none of the first i PIDs is the one. Assumes nothing.
-use borrow.Author.Rules.{rules}
 use Prim.Native.Nat.{◌-◌}
-use mathlib.Core.Path.{◌≡◌, refl, sym}
+use mathlib.Core.Path.{◌≡◌}
 use mathlib.Core.Bool.{false}
-use lib.Dec.{eqb}
 use lib.ListN.{take}
-use borrow.Author.Tests.{eq-eqb, ne_eqb}
 use Rattle.locks.specs.Lists.{member}
-use Rattle.locks.proofs.Loops.{Walk, walk_start, walk-next, none-next, found, none}
-use Rattle.rules.specs.State.{pids}
+use Rattle.locks.proofs.Loops.{Walk}
 use Rattle.soundness.proofs.rows.among.Given as goal
 
 abbrev pub invariant-loop-i : goal.invariant-loop-i

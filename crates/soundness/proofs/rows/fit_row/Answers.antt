@@ -1,5 +1,4 @@
 -- `soundness::rows::fit_row` meets its contract. Assumes nothing.
-use borrow.Author.Rules.{rules}
 use Rattle.locks.specs.Words.{fit_row}
 use Rattle.soundness.proofs.rows.fit_row.Goals as goal
 

@@ -1,17 +1,10 @@
 -- `soundness::rows::meets` meets its contract: row r is held against the rows before place a. Assumes nothing.
-use borrow.Author.Rules.{rules}
 use Prim.Native.Nat.{◌-◌, ◌≤◌}
-use native.Mathlib.Omega.{arith}
-use mathlib.Core.Path.{◌∙◌}
 use mathlib.Core.List.{List}
-use mathlib.Core.Logic.{⊎_elim}
-use borrow.Author.Tests.{eqb-true, eqb-false}
-use mathlib.Core.Bool.{false}
-use lib.ListN.{get_or}
 use Rattle.locks.specs.declared.rows.Row.{Row}
 use Rattle.locks.specs.Words.{Told}
 use Rattle.soundness.specs.Waiting.{Noted}
-use Rattle.soundness.proofs.Meeting.{Against, against-none, against-all, against-twin, others, conflict-told, no-twin, no-conflict, one-not, other-not, both, against-waits, against-passes}
+use Rattle.soundness.proofs.Meeting.{Against}
 use Rattle.soundness.proofs.rows.meets.Given as goal
 
 abbrev pub invariant-loop-a : goal.invariant-loop-a

@@ -1,12 +1,8 @@
 -- `soundness::rows::owners_live` meets its contract. Assumes nothing.
-use borrow.Author.Rules.{rules}
 use Prim.Native.Nat.{◌-◌}
-use native.Mathlib.Omega.{arith}
-use mathlib.Core.Path.{sym, ◌∙◌}
 use lib.ListN.{take}
-use borrow.Author.Tests.{not-true, not-false}
 use Rattle.locks.specs.Lists.{member}
-use Rattle.soundness.proofs.Loops.{Passing, first, pass, fail, passed}
+use Rattle.soundness.proofs.Loops.{Passing}
 use Rattle.soundness.proofs.rows.owners_live.Given as goal
 
 abbrev pub invariant-loop-i : goal.invariant-loop-i

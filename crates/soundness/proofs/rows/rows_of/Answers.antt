@@ -1,20 +1,15 @@
 -- `soundness::rows::rows_of` meets its contract: k of the first i owners are the process. Assumes nothing.
 use borrow.Author.Rules.{rules}
-use Prim.Native.Nat.{ℕ, ◌-◌, ◌≤◌}
 use native.Mathlib.Omega.{arith}
-use mathlib.Core.Path.{◌≡◌, refl}
-use mathlib.Core.Bool.{Bool}
-use mathlib.Core.List.{List, []}
-use mathlib.Core.Logic.{⊎_elim}
+use mathlib.Core.Path.{refl}
+use mathlib.Core.List.{[]}
 use lib.Dec.{eqb}
-use lib.ListN.{length, take, length-append}
+use lib.ListN.{take, length-append}
 use borrow.Author.Tests.{eq-eqb, ne_eqb}
-use Rattle.locks.proofs.Loops.{Walk, walk_start, walk-next, walk_end, keep-sift, sifted, sifted-more, sifted-same}
+use Rattle.locks.proofs.Loops.{walk_start, walk-next, walk_end, keep-sift, sifted-more, sifted-same}
+use Rattle.soundness.proofs.rows.rows_of.Invariants.{own}
 use Rattle.soundness.proofs.rows.rows_of.Goals as goal
 use Rattle.soundness.proofs.rows.rows_of.Goals.{else-owners-i, then-owners-i}
-
-abbrev own : ℕ → List ℕ → ℕ → Bool
-own pid _ x = eqb x pid
 
 pub loop-i-init : goal.loop-i-init
 loop-i-init c = (walk_start _ _ _ _ c.requires.1 (search rules), (search rules, refl))
@@ -25,7 +20,7 @@ loop-i-preserved c =
     let l = c.loop-i-test.true in
     let f = own c.args.pid in (
       walk-next inv.0 l,
-      elim c.if-owners-i.branch [ then-owners-i w ↦ (omega arith, rw (w.1, sifted-more inv.0 f 0 l (eq-eqb _ _ w.if-owners-i.true), inv.1.1, length-append)) | else-owners-i w ↦ (omega arith, rw (w.1, sifted-same inv.0 f 0 l (ne_eqb _ _ w.if-owners-i.false)) inv.1.1) ],
+      elim c.if-owners-i.branch [ then-owners-i w ↦ (omega arith, rw (w.k-is, sifted-more inv.0 f 0 l (eq-eqb _ _ w.if-owners-i.true), inv.1.1, length-append)) | else-owners-i w ↦ (omega arith, rw (w.k-is, sifted-same inv.0 f 0 l (ne_eqb _ _ w.if-owners-i.false)) inv.1.1) ],
     )
 
 pub returns : goal.returns

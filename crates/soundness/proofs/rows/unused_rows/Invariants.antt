@@ -1,11 +1,8 @@
 -- `soundness::rows::unused_rows` meets its contract: the rows before place i pass. Assumes nothing.
-use borrow.Author.Rules.{rules}
 use Prim.Native.Nat.{◌-◌}
-use mathlib.Core.Path.{sym, ◌∙◌}
-use lib.ListN.{drop, length-map}
-use borrow.Author.Tests.{not-true, not-false}
+use lib.ListN.{drop}
 use Rattle.locks.specs.Rows.{zero_row}
-use Rattle.soundness.proofs.Loops.{Passing, from, pass, fail, passed}
+use Rattle.soundness.proofs.Loops.{Passing}
 use Rattle.soundness.proofs.rows.unused_rows.Given as goal
 
 abbrev pub invariant-loop-i : goal.invariant-loop-i

@@ -1,5 +1,4 @@
 -- `soundness::rows::zero_row` meets its contract. Assumes nothing.
-use borrow.Author.Rules.{rules}
 use Rattle.locks.specs.Rows.{zero_row}
 use Rattle.soundness.proofs.rows.zero_row.Goals as goal
 

@@ -1,10 +1,7 @@
 -- `soundness::state::pids_of` meets its contract: the first i PIDs are copied. Assumes nothing.
 use borrow.Author.Rules.{rules}
-use Prim.Native.Nat.{◌-◌}
-use mathlib.Core.Path.{◌≡◌, refl, ◌∙◌}
-use lib.ListN.{take, length-map}
+use mathlib.Core.Path.{refl, ◌∙◌}
 use Rattle.locks.specs.Lists.{padded}
-use Rattle.rules.specs.State.{pids}
 use Rattle.soundness.proofs.Laws.{copied-pid, copied-pids}
 use Rattle.soundness.proofs.state.pids_of.Goals as goal
 
@@ -13,7 +10,7 @@ unfolding padded
 loop-i-init c = refl
 
 pub loop-i-preserved : goal.loop-i-preserved
-loop-i-preserved c = rw c.loop-i.invariant (copied-pid c.args.t1.procs _ _ (simp length-map at c.well-formed.0.1.1.0.1.0.1) c.loop-i-test.true)
+loop-i-preserved c = rw c.loop-i.invariant (copied-pid c.args.s.procs _ _ (search rules) c.loop-i-test.true)
 
 pub returns : goal.returns
-returns c = c.loop-i.invariant ∙ copied-pids _ _ (simp length-map at c.well-formed.0.1.1.0.1.0.1) c.loop-i-test.false
+returns c = c.loop-i.invariant ∙ copied-pids _ _ (search rules) c.loop-i-test.false

@@ -1,11 +1,9 @@
 -- `soundness::state::pids_of` meets its contract: the first i PIDs are copied. Assumes nothing.
-use borrow.Author.Rules.{rules}
 use Prim.Native.Nat.{◌-◌}
-use mathlib.Core.Path.{◌≡◌, refl, ◌∙◌}
-use lib.ListN.{take, length-map}
+use mathlib.Core.Path.{◌≡◌}
+use lib.ListN.{take}
 use Rattle.locks.specs.Lists.{padded}
 use Rattle.rules.specs.State.{pids}
-use Rattle.soundness.proofs.Laws.{copied-pid, copied-pids}
 use Rattle.soundness.proofs.state.pids_of.Given as goal
 
 abbrev pub invariant-loop-i : goal.invariant-loop-i
