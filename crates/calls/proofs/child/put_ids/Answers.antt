@@ -16,11 +16,11 @@ pub loop-k-preserved : goal.loop-k-preserved
 loop-k-preserved c =
     let a = c.args in
     let d = a.m.now in
-    let k = c.loop.k in
-    let l : k < 7 = c.loop-test.true in
+    let k = c.loop-k.k in
+    let l : k < 7 = c.loop-k-test.true in
     let b : USER + k < PLACE = omega arith in (
       omega arith,
-      c.set.ensures ∙ run_more d USER (id_in d a.i) a.j k c.loop.invariant.1 (c.of-n.ensures ∙ read-ahead d a.i a.j (run USER (id_in d a.i) k) (USER + k) c.loop.invariant.1 c.requires.0 b),
+      c.set.ensures ∙ run_more d USER (id_in d a.i) a.j k c.loop-k.invariant.1 (c.of-n.ensures ∙ read-ahead d a.i a.j (run USER (id_in d a.i) k) (USER + k) c.loop-k.invariant.1 c.requires.0 b),
     )
 
 pub returns : goal.returns

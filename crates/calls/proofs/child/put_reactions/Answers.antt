@@ -4,13 +4,13 @@ use native.Mathlib.Omega.{arith}
 use mathlib.Core.Path.{◌≡◌, refl, ap, ◌∙◌}
 use borrow.Author.Rules.{rules}
 use Rattle.locks.specs.Pieces.{stores}
-use mathlib.Core.Logic.{⊎_elim}
 use borrow.Author.Tests.{eq-eqb, ne_eqb}
 use Rattle.rules.specs.Calls.{child_reaction}
 use Rattle.places.specs.Places.{PLACE, REACTIONS}
 use Rattle.calls.specs.Making.{reaction_in, run}
 use Rattle.calls.proofs.Making.{read-ahead, run_more}
 use Rattle.calls.proofs.child.put_reactions.Goals as goal
+use Rattle.calls.proofs.child.put_reactions.Goals.{then-k-eq2, else-k-eq2}
 
 pub loop-k-init : goal.loop-k-init
 loop-k-init c = (omega arith, refl)
@@ -23,11 +23,10 @@ loop-k-preserved c =
     let l : k < 7 = c.loop-k-test.true in
     let b : REACTIONS + k < PLACE = omega arith in
     let g = reaction_in a.d1 a.d2 d a.i in
-    let r : c.if-k-eq2.r ≡ g k =
-    ⊎_elim (λ w. rw (eq-eqb _ _ w.0.taken) w.1)
-    (λ w.
-    rw (ne_eqb _ _ w.0.left)
-    (w.4 ∙ w.3.ensures ∙ ap (child_reaction a.d1 a.d2 k) (w.2.ensures ∙ read-ahead d a.i a.j (run REACTIONS g k) (REACTIONS + k) c.loop-k.invariant.1 c.requires.0 b))) c.if-k-eq2.branch in
+    let r : c.if-k-eq2.r ≡ g k = elim c.if-k-eq2.branch [
+      | then-k-eq2 w ↦ rw (eq-eqb _ _ w.if-k-eq2.true) w.r-is
+      | else-k-eq2 w ↦ rw (ne_eqb _ _ w.if-k-eq2.false) (w.r-is ∙ w.child_reaction-r.ensures ∙ ap (child_reaction a.d1 a.d2 k) (w.of.ensures ∙ read-ahead d a.i a.j (run REACTIONS g k) (REACTIONS + k) c.loop-k.invariant.1 c.requires.0 b))
+    ] in
     (omega arith, c.set.ensures ∙ run_more d REACTIONS g a.j k c.loop-k.invariant.1 r)
 
 pub returns : goal.returns

@@ -1,7 +1,7 @@
 -- `calls::own::take` meets its contract. Assumes nothing.
 use Prim.Native.Nat.{ℕ, ◌+◌, ◌<◌, ◌%◌, ◌*◌, ◌^◌}
 use native.Mathlib.Omega.{arith}
-use mathlib.Core.Path.{refl, sym, ap, ◌∙◌}
+use mathlib.Core.Path.{◌≡◌, refl, sym, ap, ◌∙◌}
 use mathlib.Core.List.{List}
 use mathlib.Core.Logic.{⊎_elim}
 use lib.Bits.{bit_xor, xor_lt}
@@ -20,8 +20,8 @@ use Rattle.calls.proofs.own.take.Goals as goal
 use Rattle.calls.proofs.own.take.Goals.{else-k-lt7, then-k-lt7}
 
 -- the signal is one of eight
-low : (c : tie.Else1) → count_trailing_zeros 8 c.before.of.result < 8
-low c = zeros-below 8 8 _ (omega arith) (omega arith) (lit≤ tt)
+low : (x : ℕ) → (x ≡ 0 → ⊥) → x < 256 → count_trailing_zeros 8 x < 8
+low x n b = zeros-below 8 8 _ (omega arith) (omega arith) (lit≤ tt)
 
 pub returns-then-pending-eq0 : goal.returns-then-pending-eq0
 unfolding taken
@@ -30,13 +30,13 @@ returns-then-pending-eq0 c =
     (λ p l. rw (eq-eqb p.signals.pending 0 (sym (pending-is l c.of-pending.ensures) ∙ c.if-pending-eq0.true)) (refl, refl))
 
 pub overflow_cast-k : goal.overflow_cast-k
-overflow_cast-k c = omega (arith, low c)
+overflow_cast-k c = omega (arith, low c.of-pending.result c.if-pending-eq0.false (omega arith))
 
 pub overflow_cast-k-2 : goal.overflow_cast-k-2
-overflow_cast-k-2 c = omega (arith, low c)
+overflow_cast-k-2 c = omega (arith, low c.of-pending.result c.if-pending-eq0.false (omega arith))
 
 pub overflow_shl-k : goal.overflow_shl-k
-overflow_shl-k c = low c
+overflow_shl-k c = low c.of-pending.result c.if-pending-eq0.false (omega arith)
 
 pub overflow_cast-pending-2 : goal.overflow_cast-pending-2
 overflow_cast-pending-2 c =
@@ -45,7 +45,7 @@ overflow_cast-pending-2 c =
     omega (arith, xor_lt 8 x b (omega arith) (omega arith))
 
 pub overflow_add-z : goal.overflow_add-z
-overflow_add-z c = omega (arith, low c)
+overflow_add-z c = omega (arith, low c.of-pending.result c.if-pending-eq0.false (omega arith))
 
 pub returns : goal.returns
 returns c =
@@ -54,9 +54,9 @@ returns c =
     let v = bit_xor r ((1 * 2 ^ k) % 2 ^ 8) in
     let i = c.args.i in
     let after : List ℕ → List ℕ = λ n. set n (i * PLACE + PENDING) v in
-    let t : Turns (handing k v) c.args.m.now i c.set-2.new.0 =
-    elim c.if-k-lt7.branch [ then-k-lt7 w ↦ turn_is (c.set-2.ensures ∙ ap after (w.5 ∙ w.4.ensures)) (turn-handed k v w.if-k-lt7.true) | else-k-lt7 w ↦ turn_is (c.set-2.ensures ∙ ap after w.1) (turn-none k v w.if-k-lt7.false) ] in
+    let t : Turns (handing k v) c.args.m.now i c.set-2.new.m =
+    elim c.if-k-lt7.branch [ then-k-lt7 w ↦ turn_is (c.set-2.ensures ∙ ap after (w.m-is ∙ w.set.ensures)) (turn-handed k v w.if-k-lt7.true) | else-k-lt7 w ↦ turn_is (c.set-2.ensures ∙ ap after w.m-is) (turn-none k v w.if-k-lt7.false) ] in
     does (answer_of 0 0 (k + 1) c.if-k-lt7.a) t c.plain-2.ensures
     (λ p l.
-    handed p r c.if-k-lt7.a (pending-is l c.of-pending.ensures) c.if-pending-eq0.false (low c)
-    (elim c.if-k-lt7.branch [ then-k-lt7 w ↦ handed-address l k w.if-k-lt7.true (w.6 ∙ w.2.ensures) | else-k-lt7 w ↦ handed-none l k w.if-k-lt7.false w.2 ]))
+    handed p r c.if-k-lt7.a (pending-is l c.of-pending.ensures) c.if-pending-eq0.false (low c.of-pending.result c.if-pending-eq0.false (omega arith))
+    (elim c.if-k-lt7.branch [ then-k-lt7 w ↦ handed-address l k w.if-k-lt7.true (w.a-is ∙ w.of-a.ensures) | else-k-lt7 w ↦ handed-none l k w.if-k-lt7.false w.a-is ]))
