@@ -12,12 +12,11 @@ use Rattle.rules.specs.State.{with_user, with_group, privileged}
 use Rattle.rules.specs.Outcome.{refusal, badcall, priv}
 use Rattle.rules.specs.Calls.{id_of, with_id, new_ids, get_id, set_id, bad_ids}
 use Rattle.rules.specs.declared.state.Event.{Event}
-use Rattle.rules.specs.declared.state.Answer.{Answer}
 use Rattle.rules.specs.declared.state.Ids.{Ids}
 use Rattle.rules.specs.declared.state.Process.{Process}
 use Rattle.places.specs.Places.{GROUP, PLACE, USER, numbers, small_ids, whole}
 use Rattle.calls.specs.Own.{IdsAt, user, group, ids_at, with_at, wrong_ids, get_id_at, set_id_at}
-use Rattle.places.specs.Settled.{Does, answer_of, own_answer, process_after}
+use Rattle.places.specs.Settled.{Does, answer_of}
 use Rattle.rules.specs.Reply.{four_of}
 use Rattle.places.proofs.Laying.{entire}
 use Rattle.places.proofs.Sevens.{wholly}

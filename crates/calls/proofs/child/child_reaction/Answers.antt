@@ -1,7 +1,6 @@
 -- `calls::child::child_reaction` meets its contract. Assumes nothing.
 use borrow.Author.Tests.{eq-eqb, ne_eqb}
 use Rattle.rules.specs.Calls.{child_reaction}
-use borrow.Author.Rules.{rules}
 use Rattle.calls.proofs.child.child_reaction.Goals as goal
 
 pub returns-then-bit_of-2 : goal.returns-then-bit_of-2

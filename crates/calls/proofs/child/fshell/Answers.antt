@@ -6,7 +6,6 @@ use lib.ListN.{get_or}
 use Rattle.places.specs.Places.{LIVE, NEXT}
 use borrow.Author.Tests.{eq-eqb, ne_eqb, lt-ltb, le-ltb}
 use Rattle.calls.proofs.Newborn.{fshell-bad, fshell-full, fshell-done}
-use borrow.Author.Rules.{rules}
 use Rattle.calls.proofs.child.fshell.Goals as goal
 use Rattle.calls.proofs.child.fshell.Goals.{then-d1-gt255-via-then-d1-gt255, then-d1-gt255-via-else-d1-gt255+then-d2-gt255, then-live-eq-FULL-via-then-live-eq-FULL, then-live-eq-FULL-via-else-live-eq-FULL+then-next-eq-LAST}
 

@@ -1,8 +1,7 @@
 -- `calls::child::put_ids` meets its contract. Assumes nothing.
-use Prim.Native.Nat.{ℕ, ◌+◌, ◌-◌, ◌≤◌, ◌<◌}
+use Prim.Native.Nat.{ℕ, ◌+◌, ◌<◌}
 use native.Mathlib.Omega.{arith}
 use mathlib.Core.Path.{◌≡◌, refl, ap, ◌∙◌}
-use borrow.Author.Rules.{rules}
 use Rattle.locks.specs.Pieces.{stores}
 use Rattle.places.specs.Places.{PLACE, USER}
 use Rattle.calls.specs.Making.{id_in, run}

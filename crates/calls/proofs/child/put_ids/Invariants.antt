@@ -1,12 +1,9 @@
 -- `calls::child::put_ids` meets its contract. Assumes nothing.
-use Prim.Native.Nat.{ℕ, ◌+◌, ◌-◌, ◌≤◌, ◌<◌}
-use native.Mathlib.Omega.{arith}
-use mathlib.Core.Path.{◌≡◌, refl, ap, ◌∙◌}
-use borrow.Author.Rules.{rules}
+use Prim.Native.Nat.{◌-◌, ◌≤◌}
+use mathlib.Core.Path.{◌≡◌}
 use Rattle.locks.specs.Pieces.{stores}
 use Rattle.places.specs.Places.{PLACE, USER}
 use Rattle.calls.specs.Making.{id_in, run}
-use Rattle.calls.proofs.Making.{read-ahead, run_more}
 use Rattle.calls.proofs.child.put_ids.Given as goal
 
 abbrev pub invariant-loop-k : goal.invariant-loop-k

@@ -1,15 +1,9 @@
 -- `calls::child::put_reactions` meets its contract. Assumes nothing.
-use Prim.Native.Nat.{ℕ, ◌+◌, ◌-◌, ◌≤◌, ◌<◌}
-use native.Mathlib.Omega.{arith}
-use mathlib.Core.Path.{◌≡◌, refl, ap, ◌∙◌}
-use borrow.Author.Rules.{rules}
+use Prim.Native.Nat.{◌-◌, ◌≤◌}
+use mathlib.Core.Path.{◌≡◌}
 use Rattle.locks.specs.Pieces.{stores}
-use mathlib.Core.Logic.{⊎_elim}
-use borrow.Author.Tests.{eq-eqb, ne_eqb}
-use Rattle.rules.specs.Calls.{child_reaction}
 use Rattle.places.specs.Places.{PLACE, REACTIONS}
 use Rattle.calls.specs.Making.{reaction_in, run}
-use Rattle.calls.proofs.Making.{read-ahead, run_more}
 use Rattle.calls.proofs.child.put_reactions.Given as goal
 
 abbrev pub invariant-loop-k : goal.invariant-loop-k

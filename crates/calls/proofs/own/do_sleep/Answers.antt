@@ -8,7 +8,6 @@ use Rattle.places.specs.Places.{SLEEP, SECONDS, numbers, whole}
 use Rattle.places.specs.Settled.{answer_of}
 use Rattle.places.proofs.Turning.{turn_is}
 use Rattle.calls.proofs.Doing.{turns, still, does}
-use borrow.Author.Rules.{rules}
 use Rattle.calls.proofs.own.do_sleep.Goals as goal
 
 pub returns-then-d3-eq0 : goal.returns-then-d3-eq0

@@ -1,7 +1,6 @@
 -- `calls::own::get_id` meets its contract. Assumes nothing.
 use native.Mathlib.Omega.{arith}
 use Rattle.calls.proofs.Ids.{ids-low, get-bad, get-done}
-use borrow.Author.Rules.{rules}
 use Rattle.calls.proofs.own.get_id.Goals as goal
 
 pub returns-then-d2-gt2 : goal.returns-then-d2-gt2

@@ -7,7 +7,6 @@ use Rattle.calls.specs.Own.{user, group}
 use Rattle.places.specs.Places.{PID, PRIORITY, numbers}
 use Rattle.places.specs.Settled.{answer_of}
 use Rattle.calls.proofs.Doing.{still, does}
-use borrow.Author.Rules.{rules}
 use Rattle.calls.proofs.own.own_call.Goals as goal
 
 pub get_id-requires : goal.get_id-requires

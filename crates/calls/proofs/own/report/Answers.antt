@@ -5,7 +5,6 @@ use Rattle.rules.specs.Step.{reported}
 use Rattle.places.specs.Places.{LEFT, WAKE, numbers}
 use Rattle.places.specs.Settled.{answer_of}
 use Rattle.calls.proofs.Doing.{still, does}
-use borrow.Author.Rules.{rules}
 use Rattle.calls.proofs.own.report.Goals as goal
 
 pub returns : goal.returns

@@ -7,7 +7,6 @@ use Rattle.places.specs.Places.{ALARM, numbers, whole}
 use Rattle.places.specs.Settled.{answer_of}
 use Rattle.places.proofs.Turning.{turn_is}
 use Rattle.calls.proofs.Doing.{turns, does}
-use borrow.Author.Rules.{rules}
 use Rattle.calls.proofs.own.set_alarm.Goals as goal
 
 pub returns : goal.returns

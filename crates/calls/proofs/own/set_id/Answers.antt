@@ -8,7 +8,6 @@ use Rattle.rules.specs.Calls.{bad_ids}
 use borrow.Author.Tests.{eq-eqb, ne_eqb}
 use native.Mathlib.Omega.{arith}
 use Rattle.calls.proofs.Ids.{ids-fit, ids-low, set-bad, set-priv, set_value, set_other}
-use borrow.Author.Rules.{rules}
 use Rattle.calls.proofs.own.set_id.Goals as goal
 use Rattle.calls.proofs.own.set_id.Goals.{then-d2-eq3-2, else-d2-eq3-2, else-d2-eq3-via-then-d2-eq3+else-of-ne0, else-d2-eq3-via-else-d2-eq3}
 
@@ -46,10 +45,11 @@ returns c =
     let a = c.requires.1 in
     let fits : bad_ids e ≡ false = rw (h1, h2, h3) (sym c.bad_ids.ensures ∙ c.if-bad_ids.false) in
     let u = c.set.ensures in
-    elim c.if-d2-eq3-2.branch [ 
+    elim c.if-d2-eq3-2.branch [
       | then-d2-eq3-2 w ↦
           elim c.else-d2-eq3.branch [
             | else-d2-eq3-via-then-d2-eq3+else-of-ne0 v ↦ set_value a e fits (rw h2 w.if-d2-eq3-2.true) v.of.ensures (ap not (eq-eqb _ 0 v.if-of-ne0.false)) (rw (h1, h3, ← w.id-is) u) c.plain.ensures
             | else-d2-eq3-via-else-d2-eq3 v ↦ absurd (v.if-d2-eq3.false w.if-d2-eq3-2.true)
           ]
-      | else-d2-eq3-2 w ↦ set_other a e fits c.if-d2-eq3-2.id (rw h2 w.if-d2-eq3-2.false) (rw h2 (w.id-is ∙ w.of-id.ensures)) (rw h1 u) c.plain.ensures ]
+      | else-d2-eq3-2 w ↦ set_other a e fits c.if-d2-eq3-2.id (rw h2 w.if-d2-eq3-2.false) (rw h2 (w.id-is ∙ w.of-id.ensures)) (rw h1 u) c.plain.ensures
+    ]

@@ -9,7 +9,6 @@ use Rattle.places.specs.Places.{PRIORITY, numbers, whole}
 use Rattle.places.specs.Settled.{answer_of}
 use Rattle.places.proofs.Turning.{turn_is}
 use Rattle.calls.proofs.Doing.{turns, still, does, privileged-is}
-use borrow.Author.Rules.{rules}
 use Rattle.calls.proofs.own.set_prior.Goals as goal
 use Rattle.calls.proofs.own.set_prior.Goals.{else-d3-ge2147483648-via-then-d3-ge2147483648+else-of-ne0, else-d3-ge2147483648-via-else-d3-ge2147483648}
 

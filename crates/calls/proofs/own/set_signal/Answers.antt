@@ -13,7 +13,6 @@ use Rattle.places.specs.Settled.{answer_of}
 use Rattle.places.proofs.Turning.{turn_is}
 use Rattle.places.proofs.Sevens.{reaction-get, turn-reaction}
 use Rattle.calls.proofs.Doing.{still, does, pid-is}
-use borrow.Author.Rules.{rules}
 use Rattle.calls.proofs.own.set_signal.Goals as goal
 use Rattle.calls.proofs.own.set_signal.Goals.{then-d2-lt1-via-then-d2-lt1, then-d2-lt1-via-else-d2-lt1+then-d2-gt7, then-d2-lt1-via-else-d2-lt1+else-d2-gt7+then-d2-eq3, then-d2-lt1-via-else-d2-lt1+else-d2-gt7+else-d2-eq3+then-of-eq1}
 

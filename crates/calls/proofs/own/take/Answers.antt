@@ -3,7 +3,6 @@ use Prim.Native.Nat.{ℕ, ◌+◌, ◌<◌, ◌%◌, ◌*◌, ◌^◌}
 use native.Mathlib.Omega.{arith}
 use mathlib.Core.Path.{◌≡◌, refl, sym, ap, ◌∙◌}
 use mathlib.Core.List.{List}
-use mathlib.Core.Logic.{⊎_elim}
 use lib.Bits.{bit_xor, xor_lt}
 use lib.Count.{count_trailing_zeros}
 use lib.Dec.{lit≤}
@@ -15,7 +14,6 @@ use Rattle.places.specs.Settled.{answer_of}
 use Rattle.places.proofs.Turning.{turn_is}
 use Rattle.calls.proofs.Doing.{still, does, pending-is}
 use Rattle.calls.proofs.Handing.{zeros-below, handing, handed, handed-address, handed-none, turn-handed, turn-none}
-use borrow.Author.Rules.{rules}
 use Rattle.calls.proofs.own.take.Goals as goal
 use Rattle.calls.proofs.own.take.Goals.{else-k-lt7, then-k-lt7}
 
