@@ -24,7 +24,7 @@ returns-then-events-ge1000 c = rw (sym c.is_broken.ensures ∙ c.if-is_broken.fa
 pub returns-then-out-events : goal.returns-then-out-events
 returns-then-out-events c =
     let a = c.args in
-    sym (event-not a.w a.out.now (sym c.is_broken.ensures ∙ c.if-is_broken.false) (λ i. (c.slice-known.given i).fits) a.e c.if-sequences-e.false c.if-events-ge1000.false c.if-out-events.true)
+    sym (event-not a.w a.out.now (sym c.is_broken.ensures ∙ c.if-is_broken.false) (search rules) a.e c.if-sequences-e.false c.if-events-ge1000.false c.if-out-events.true)
 
 pub lay_event-requires : goal.lay_event-requires
 lay_event-requires c =
@@ -35,4 +35,4 @@ pub returns : goal.returns
 returns c =
     let a = c.args in
     ap (λ x. (Taken (record { events = a.w.events + 1; sequences = a.w.sequences }), x)) c.lay_event.ensures
-    ∙ sym (event-taken a.w a.out.now (sym c.is_broken.ensures ∙ c.if-is_broken.false) (λ i. (c.slice-known.given i).fits) a.e c.if-sequences-e.false c.if-events-ge1000.false c.if-out-events.false)
+    ∙ sym (event-taken a.w a.out.now (sym c.is_broken.ensures ∙ c.if-is_broken.false) (search rules) a.e c.if-sequences-e.false c.if-events-ge1000.false c.if-out-events.false)

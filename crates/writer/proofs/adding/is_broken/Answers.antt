@@ -1,5 +1,4 @@
 -- `writer::adding::is_broken` meets its contract. Assumes nothing.
-use borrow.Author.Rules.{rules}
 use Rattle.forms.specs.Adding.{is_broken}
 use Rattle.writer.proofs.adding.is_broken.Goals as goal
 

@@ -1,10 +1,10 @@
 -- `writer::laying::move_up` meets its contract. Assumes nothing.
 use borrow.Author.Rules.{rules}
-use Prim.Native.Nat.{◌+◌, ◌-◌, ◌≤◌}
+use Prim.Native.Nat.{◌+◌, ◌-◌}
 use native.Mathlib.Omega.{arith}
 use mathlib.Core.Path.{◌≡◌, refl, sym, ◌∙◌}
-use mathlib.Core.List.{◌++◌, append_assoc}
-use lib.ListN.{length, take, drop, length-set}
+use mathlib.Core.List.{append_assoc}
+use lib.ListN.{take, drop, length-set}
 use Rattle.writer.proofs.Buffers.{moved, unmoved}
 use Rattle.writer.proofs.laying.move_up.Goals as goal
 

@@ -1,11 +1,8 @@
 -- `writer::laying::move_up` meets its contract. Assumes nothing.
-use borrow.Author.Rules.{rules}
 use Prim.Native.Nat.{◌+◌, ◌-◌, ◌≤◌}
-use native.Mathlib.Omega.{arith}
-use mathlib.Core.Path.{◌≡◌, refl, sym, ◌∙◌}
-use mathlib.Core.List.{◌++◌, append_assoc}
-use lib.ListN.{length, take, drop, length-set}
-use Rattle.writer.proofs.Buffers.{moved, unmoved}
+use mathlib.Core.Path.{◌≡◌}
+use mathlib.Core.List.{◌++◌}
+use lib.ListN.{length, take, drop}
 use Rattle.writer.proofs.laying.move_up.Given as goal
 
 -- what is moved, and what is not yet

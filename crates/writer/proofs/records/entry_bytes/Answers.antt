@@ -1,5 +1,4 @@
 -- `writer::records::entry_bytes` meets its contract. Assumes nothing.
-use borrow.Author.Rules.{rules}
 use Rattle.forms.specs.Form.{entry_bytes}
 use Rattle.writer.proofs.records.entry_bytes.Goals as goal
 

@@ -1,5 +1,4 @@
 -- `writer::records::paper_header` meets its contract. Assumes nothing.
-use borrow.Author.Rules.{rules}
 use Rattle.forms.specs.Form.{paper_header}
 use Rattle.writer.proofs.records.paper_header.Goals as goal
 
