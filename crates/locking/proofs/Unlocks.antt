@@ -17,7 +17,7 @@ use Rattle.rules.specs.declared.state.Process.{Process}
 use Rattle.rules.specs.declared.state.Event.{Event}
 use Rattle.rules.proofs.Frame.{Ok}
 use Rattle.rules.proofs.Rows.{granted-pid}
-use Rattle.places.specs.Places.{wakes_by, Laid, Lays, ROWS, USED, whole, with_rows}
+use Rattle.places.specs.Places.{wakes_by, Laid, Lays, ROWS, USED, with_rows}
 use Rattle.places.proofs.Masking.{map-masks}
 use Rattle.locks.specs.Cells.{Left, Names, Rows, Tells}
 use Rattle.locking.specs.Granted.{Granted}

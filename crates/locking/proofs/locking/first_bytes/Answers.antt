@@ -5,7 +5,6 @@ use mathlib.Core.Path.{sym, ap, ◌∙◌}
 use lib.Seq.{take_all}
 use Rattle.locks.specs.Words.{value}
 use Rattle.locking.proofs.Sequences.{shifted, shift-pos, value-cut}
-use borrow.Author.Rules.{rules}
 use Rattle.locking.proofs.locking.first_bytes.Goals as goal
 
 pub nonzero_rem-result : goal.nonzero_rem-result

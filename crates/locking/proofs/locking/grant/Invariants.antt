@@ -1,15 +1,11 @@
 -- `locking::locking::grant` meets its contract. The invariant: the first i processes are as `granted` has them, and those who woke are marked. Assumes nothing.
 use Prim.Native.Nat.{◌-◌, ◌≤◌}
-use mathlib.Core.Path.{◌≡◌, sym}
-use mathlib.Core.Logic.{⊎_elim}
+use mathlib.Core.Path.{◌≡◌}
 use lib.ListN.{length}
-use Rattle.rules.specs.State.{granted, rows_left}
+use Rattle.rules.specs.State.{granted}
 use Rattle.locks.specs.Cells.{Rows}
 use Rattle.places.specs.Places.{machine, ROWS}
-use Rattle.places.proofs.Laying.{procs-used}
-use Rattle.locks.proofs.Telling.{rows-shows}
-use Rattle.locking.proofs.Sweep.{Sweep, sweep, swept, grant-woken, grant-waits, grant-awake}
-use borrow.Author.Rules.{rules}
+use Rattle.locking.proofs.Sweep.{Sweep}
 use Rattle.locking.proofs.locking.grant.Given as goal
 
 abbrev pub invariant-loop-i : goal.invariant-loop-i

@@ -1,7 +1,6 @@
 -- `locking::locking::hold` meets its contract. Assumes nothing.
 use mathlib.Core.Path.{sym}
 use Rattle.locking.proofs.Lockings.{hold-done, hold-full, laid-rows}
-use borrow.Author.Rules.{rules}
 use Rattle.locking.proofs.locking.hold.Goals as goal
 
 pub returns-then-used-eq-ROWS : goal.returns-then-used-eq-ROWS

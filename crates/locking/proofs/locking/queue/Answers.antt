@@ -1,7 +1,6 @@
 -- `locking::locking::queue` meets its contract. Assumes nothing.
 use Prim.Native.Nat.{ℕ}
 use mathlib.Core.Path.{sym, ap, ◌∙◌}
-use mathlib.Core.Logic.{⊎_elim}
 use native.Mathlib.Omega.{arith}
 use Rattle.places.specs.Places.{machine}
 use Rattle.places.specs.Settled.{answer_of}
@@ -10,9 +9,17 @@ use Rattle.locks.proofs.Telling.{rows-shows}
 use Rattle.locking.proofs.Lockings.{laid-rows, leads-exact, queue-dead, queue-done, queue-full}
 use borrow.Author.Rules.{rules}
 use Rattle.locking.proofs.locking.queue.Goals as goal
+use Rattle.locking.proofs.locking.queue.Goals.{then-leads_back, else-leads_back+then-used-eq-ROWS, else-leads_back+else-used-eq-ROWS}
 
 pub refusal-requires : goal.refusal-requires
-refusal-requires c = (⊎_elim (λ w. rw w.1 (omega arith)) (⊎_elim (λ w. rw w.2 (omega arith)) (λ w. rw w.2 (omega arith))) c.if-leads_back.branch, search rules)
+refusal-requires c = (
+  elim c.if-leads_back.branch [
+    | then-leads_back w ↦ rw w.number-is (omega arith)
+    | else-leads_back+then-used-eq-ROWS w ↦ rw w.number-is (omega arith)
+    | else-leads_back+else-used-eq-ROWS w ↦ rw w.number-is (omega arith)
+  ],
+  search rules,
+)
 
 pub returns-then-number-ne0 : goal.returns-then-number-ne0
 returns-then-number-ne0 c = λ r y.
@@ -23,10 +30,11 @@ returns-then-number-ne0 c = λ r y.
     let a = c.append.ensures rows r q.laid.lays.rows n y in
     let b = leads-exact rows r (c.leads_back.ensures rows r (rows-shows a) n) in
     let d = c.drop_last.ensures rows r a n in
-    ⊎_elim (λ w. queue-dead q e r (sym b ∙ w.0.taken) d (c.refusal.ensures ∙ ap (λ (k : ℕ). four_of (answer_of 3 k 0 0)) w.1))
-    (⊎_elim (λ w. queue-full q e r (sym b ∙ w.0.left) w.1.taken d (c.refusal.ensures ∙ ap (λ (k : ℕ). four_of (answer_of 3 k 0 0)) w.2))
-    (λ w. absurd (c.if-number-ne0.true w.2)))
-    c.if-leads_back.branch
+    elim c.if-leads_back.branch [
+      | then-leads_back w ↦ queue-dead q e r (sym b ∙ w.if-leads_back.true) d (c.refusal.ensures ∙ ap (λ (k : ℕ). four_of (answer_of 3 k 0 0)) w.number-is)
+      | else-leads_back+then-used-eq-ROWS w ↦ queue-full q e r (sym b ∙ w.if-leads_back.false) w.if-used-eq-ROWS.true d (c.refusal.ensures ∙ ap (λ (k : ℕ). four_of (answer_of 3 k 0 0)) w.number-is)
+      | else-leads_back+else-used-eq-ROWS w ↦ absurd (c.if-number-ne0.true w.number-is)
+    ]
 
 pub returns : goal.returns
 returns c = λ r y.
@@ -36,7 +44,8 @@ returns c = λ r y.
     let rows = (machine c.args.m.now c.args.t.now).rows in
     let a = c.append.ensures rows r q.laid.lays.rows n y in
     let b = leads-exact rows r (c.leads_back.ensures rows r (rows-shows a) n) in
-    ⊎_elim (λ w. absurd (omega (arith, w.1, c.if-number-ne0.false)))
-    (⊎_elim (λ w. absurd (omega (arith, w.2, c.if-number-ne0.false)))
-    (λ w. queue-done q e r (sym b ∙ w.0.left) w.1.left a c.set.ensures c.set-2.ensures c.plain.ensures))
-    c.if-leads_back.branch
+    elim c.if-leads_back.branch [
+      | then-leads_back w ↦ absurd (omega (arith, w.number-is, c.if-number-ne0.false))
+      | else-leads_back+then-used-eq-ROWS w ↦ absurd (omega (arith, w.number-is, c.if-number-ne0.false))
+      | else-leads_back+else-used-eq-ROWS w ↦ queue-done q e r (sym b ∙ w.if-leads_back.false) w.if-used-eq-ROWS.false a c.set.ensures c.set-2.ensures c.plain.ensures
+    ]
