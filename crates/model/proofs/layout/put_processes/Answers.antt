@@ -1,4 +1,5 @@
 -- `model::layout::put_processes` meets its contract. Assumes nothing.
+use borrow.Author.Rules.{rules}
 use Prim.Native.Nat.{◌-◌, ◌≤◌}
 use native.Mathlib.Omega.{arith}
 use mathlib.Core.Path.{◌≡◌, refl}
@@ -27,16 +28,16 @@ loop-i-smaller c = omega (arith, c.loop-i-test.true)
 
 pub loop-i-preserved : goal.loop-i-preserved
 loop-i-preserved c =
-    let s = c.args.t1 in
+    let s = c.args.s in
     let l = c.loop-i in
     let a = c.loop-i-test.true in
     let b = c.requires.0 in
-    let n : length s.procs ≡ 16 = simp length-map at c.well-formed.0.1.1.0.1.0.1 in
+    let n : length s.procs ≡ 16 = search rules in
     (omega (arith, a), put-more s.procs l.i _ l.invariant.1 (omega (arith, a, b, n)) (omega (arith, a, b)) refl c.put_process.ensures.0 c.put_process.ensures.1)
 
 pub returns : goal.returns
 returns c =
-    let s = c.args.t1 in
+    let s = c.args.s in
     let l = c.loop-i in
     let e : l.i ≡ s.live = omega (arith, l.invariant.0, c.loop-i-test.false) in
-    (rw e at l.invariant.1, simp length-map at c.well-formed.0.1.1.0.1.0.1)
+    (rw e at l.invariant.1, search rules)

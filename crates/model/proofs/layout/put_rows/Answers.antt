@@ -41,11 +41,11 @@ loop-i-smaller c = omega (arith, c.loop-i-test.true)
 pub loop-i-preserved : goal.loop-i-preserved
 unfolding rows_of
 loop-i-preserved c =
-    let t = c.args.t1 in
+    let t = c.args.table in
     let l = c.loop-i in
     let a = c.loop-i-test.true in
     let b = c.requires.0 in
-    let n : length t.rows ≡ 32 = simp length-map at c.well-formed.0.1.1.0.1.0.1 in
+    let n : length t.rows ≡ 32 = search rules in
     let r = get_or t.rows l.i blank in
     let k : length (take t.used t.rows) ≡ t.used = length-take-le t.used t.rows (omega (arith, b, n)) in
     let f : fit_row r ≡ true = rw (get_or-take t.used t.rows l.i blank a) at (all-at fit_row (take t.used t.rows) blank l.i (omega (arith, a, k)) c.requires.1) in
@@ -54,7 +54,7 @@ loop-i-preserved c =
 pub returns : goal.returns
 unfolding rows_of
 returns c =
-    let t = c.args.t1 in
+    let t = c.args.table in
     let l = c.loop-i in
     let e : l.i ≡ t.used = omega (arith, l.invariant.0, c.loop-i-test.false) in
-    (rw e at l.invariant.1, simp length-map at c.well-formed.0.1.1.0.1.0.1)
+    (rw e at l.invariant.1, search rules)
