@@ -28,7 +28,7 @@ pub returns-then-e-ne1 : goal.returns-then-e-ne1
 returns-then-e-ne1 c =
     let x = c.args in
     let p = caller x.m.now x.t.now x.i in
-    act-report p x.e c.if2.true c.if1.false (report-settled c.requires.0 c.report.ensures)
+    act-report p x.e c.if-e-ne1.true c.if-e-eq3.false (report-settled c.requires.0 c.report.ensures)
 
 pub of-requires : goal.of-requires
 of-requires c = (calls-fits c.requires.0, omega arith)
@@ -37,10 +37,10 @@ pub returns-then-of-ne0 : goal.returns-then-of-ne0
 returns-then-of-ne0 c =
     let x = c.args in
     let p = caller x.m.now x.t.now x.i in
-    act-trap p x.e c.if2.false (λ z. c.if-of-ne0.true (sym (caller-pending c.requires.0 c.of.ensures) ∙ z)) c.requires.0.laid.lays c.refusal.ensures
+    act-trap p x.e c.if-e-ne1.false (λ z. c.if-of-ne0.true (sym (caller-pending c.requires.0 c.of.ensures) ∙ z)) c.requires.0.laid.lays c.refusal.ensures
 
 pub returns : goal.returns
 returns c =
     let x = c.args in
     let p = caller x.m.now x.t.now x.i in
-    act-call p x.e c.if2.false (caller-pending c.requires.0 c.of.ensures ∙ c.if-of-ne0.false) c.call.ensures
+    act-call p x.e c.if-e-ne1.false (caller-pending c.requires.0 c.of.ensures ∙ c.if-of-ne0.false) c.call.ensures

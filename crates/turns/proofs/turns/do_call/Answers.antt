@@ -9,24 +9,26 @@ use Rattle.places.specs.Settled.{Sequence}
 use Rattle.places.proofs.Laying.{housed}
 use Rattle.turns.proofs.Owning.{call_settled}
 use Rattle.places.proofs.Settling.{settled-refused}
+use mathlib.Core.Path.{◌≡◌}
+use mathlib.Core.Bool.{cond}
+use Prim.Native.Nat.{ℕ}
+use Rattle.rules.specs.declared.state.Event.{Event}
+use Rattle.locks.specs.Words.{Worded}
+use Rattle.locks.specs.declared.words.Words.{Words}
 use Rattle.turns.proofs.turns.do_call.Goals as goal
 
 -- what is asked of the sequence
-asks-lock : (c : tie.Joined1) → Sequence c.before.before.before.before.before.before.before.before.args.e c.if1.lock c.before.before.before.before.words_of.result.low c.before.before.before.before.words_of.result.high
-asks-lock c =
-    let w = c.before.before.before.before.words_of.ensures in
-    record { count = ⊎_elim (λ y. rw y.0.taken y.1) (λ y. rw y.0.left y.1) c.if1.branch; long = w.long; small = w.small; first = w.first; last = w.last }
+asks : (e : Event) {n : ℕ} {w : Words} → n ≡ cond e.named e.d3 0 → Worded e.seq w → Sequence e n w.low w.high
+asks e n w = record { count = n; long = w.long; small = w.small; first = w.first; last = w.last }
+
 
 pub lock-requires : goal.lock-requires
-lock-requires c = (c.requires.0, record { event = c.args.e; asks = asks-lock c }, c.requires.1)
+lock-requires c = (c.requires.0, record { event = c.args.e; asks = asks c.args.e ? c.words_of-w.ensures }, c.requires.1)
 
-asks-unlock : (c : tie.Joined2) → Sequence c.before.before.before.before.before.before.before.before.args.e c.if2.unlock c.before.before.before.before.words-of2.result.low c.before.before.before.before.words-of2.result.high
-asks-unlock c =
-    let w = c.before.before.before.before.words-of2.ensures in
-    record { count = ⊎_elim (λ y. rw y.0.taken y.1) (λ y. rw y.0.left y.1) c.if2.branch; long = w.long; small = w.small; first = w.first; last = w.last }
+
 
 pub unlock-requires : goal.unlock-requires
-unlock-requires c = (c.requires.0, record { event = c.args.e; asks = asks-unlock c }, c.requires.1)
+unlock-requires c = (c.requires.0, record { event = c.args.e; asks = asks c.args.e ? c.words_of-w-in-Unlock.ensures }, c.requires.1)
 
 pub fshell-requires : goal.fshell-requires
 fshell-requires c =
@@ -35,28 +37,28 @@ fshell-requires c =
 
 pub returns-in-Own : goal.returns-in-Own
 unfolding do_call
-returns-in-Own c = rw c.c-1.is (call_settled c.requires.0 _ c.args.e (c.own_call.ensures c.args.e (record { is-d1 = refl; is-d2 = refl; is-d3 = refl; is-a0 = refl })))
+returns-in-Own c = rw c.in-Own.is (call_settled c.requires.0 _ c.args.e (c.own_call.ensures c.args.e (record { is-d1 = refl; is-d2 = refl; is-d3 = refl; is-a0 = refl })))
 
 pub returns-after-e : goal.returns-after-e
 unfolding do_call
-returns-after-e c = rw c.enum_told-1.is (c.lock.ensures c.args.e (asks-lock c) refl)
+returns-after-e c = rw c.in-Lock.is (c.lock.ensures c.args.e (asks c.args.e ? c.words_of-w.ensures) refl)
 
 pub returns-after-e-2 : goal.returns-after-e-2
 unfolding do_call
-returns-after-e-2 c = rw c.enum_told-in-Unlock-1.is (c.unlock.ensures c.args.e (asks-unlock c))
+returns-after-e-2 c = rw c.in-Unlock.is (c.unlock.ensures c.args.e (asks c.args.e ? c.words_of-w-in-Unlock.ensures))
 
 pub returns-in-Kill : goal.returns-in-Kill
 unfolding do_call
-returns-in-Kill c = rw c.enum_told-in-Kill-1.is (c.kill.ensures c.args.e refl refl)
+returns-in-Kill c = rw c.in-Kill.is (c.kill.ensures c.args.e refl refl)
 
 pub returns-in-Exit : goal.returns-in-Exit
 unfolding do_call
-returns-in-Exit c = rw c.enum_told-in-Exit-1.is c.exit.ensures
+returns-in-Exit c = rw c.in-Exit.is c.exit.ensures
 
 pub returns-in-FShell : goal.returns-in-FShell
 unfolding do_call
-returns-in-FShell c = rw c.enum_told-in-FShell-1.is (c.fshell.ensures c.args.e c.args.t.now refl refl c.requires.0)
+returns-in-FShell c = rw c.in-FShell.is (c.fshell.ensures c.args.e c.args.t.now refl refl c.requires.0)
 
 pub returns-in-Indirect : goal.returns-in-Indirect
 unfolding do_call
-returns-in-Indirect c = rw c.enum_told-in-Indirect-1.is (settled-refused badcall c.requires.0.laid.lays c.refusal.ensures)
+returns-in-Indirect c = rw c.in-Indirect.is (settled-refused badcall c.requires.0.laid.lays c.refusal.ensures)
