@@ -19,7 +19,7 @@ use Rattle.locks.specs.Cells.{Left, Names, Rows, staying}
 use Rattle.locking.specs.Granted.{Granted}
 use Rattle.places.specs.Places.{Laid, Lays, NEXT, Procs, ROWS, USED, machine, procs_in}
 use Rattle.locks.specs.declared.cells.Cell.{Cell}
-use Rattle.places.proofs.Laying.{laid, procs-back, procs-next, procs-used}
+use Rattle.places.proofs.Laying.{procs-back, procs-next, procs-used}
 use Rattle.locking.proofs.Unlocks as unlocks
 use Rattle.locking.proofs.Unlocks.{left-granted}
 

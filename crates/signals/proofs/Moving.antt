@@ -1,5 +1,5 @@
 -- Processes move up in their array. Assumes nothing.
-use Prim.Native.Nat.{ℕ, suc, ◌+◌, ◌-◌, ◌*◌, ◌≤◌, ◌<◌}
+use Prim.Native.Nat.{ℕ, ◌+◌, ◌-◌, ◌*◌, ◌≤◌, ◌<◌}
 use native.Mathlib.Omega.{arith}
 use native.Mathlib.Numerals.{add-one}
 use mathlib.Core.Path.{◌≡◌, refl, sym, ap, ◌∙◌}
@@ -8,7 +8,7 @@ use mathlib.Core.List.{List, [], ◌∷◌, ◌++◌, append-nil}
 use lib.ListN.{length, get_or, take, drop, set, replicate, length-append, length-drop, length-set, get_or-replicate}
 use lib.Seq.{paste, paste-suc, length_paste_head, length-take-le, get_or-append-add, get_or-drop, set_at, set-get_or, drop-append_seam, take_all, take-suc}
 use borrow.Author.Tests.{eq-eqb, ne_eqb}
-use Rattle.locks.specs.Lists.{padded, all, keep}
+use Rattle.locks.specs.Lists.{padded, keep}
 use Rattle.locks.proofs.Fewer.{fewer-keep, fewer-all}
 use Rattle.rules.specs.State.{no_process, new_process, has}
 use Rattle.rules.specs.declared.state.Process.{Process}

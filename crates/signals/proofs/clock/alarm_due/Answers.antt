@@ -1,7 +1,4 @@
-use borrow.Author.Rules.{rules}
-use Prim.Native.Nat.{◌-◌}
-use Rattle.places.specs.Places.{procs_in}
-use Rattle.signals.proofs.Looking.{Looking, looking}
+use Rattle.signals.proofs.Looking.{looking}
 use Rattle.signals.proofs.Ringing.{due-found, due-none, due-on}
 use Rattle.signals.proofs.Seconds.{due}
 use Rattle.signals.proofs.clock.alarm_due.Goals as goal

@@ -1,8 +1,6 @@
-use borrow.Author.Rules.{rules}
 use Prim.Native.Nat.{◌-◌}
 use Rattle.places.specs.Places.{procs_in}
-use Rattle.signals.proofs.Looking.{Looking, looking}
-use Rattle.signals.proofs.Ringing.{due-found, due-none, due-on}
+use Rattle.signals.proofs.Looking.{Looking}
 use Rattle.signals.proofs.Seconds.{due}
 use Rattle.signals.proofs.clock.alarm_due.Given as goal
 

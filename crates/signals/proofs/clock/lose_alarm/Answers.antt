@@ -1,5 +1,4 @@
 use Rattle.signals.proofs.Elapsing.{alarm-less, alarm-off}
-use borrow.Author.Rules.{rules}
 use Rattle.signals.proofs.clock.lose_alarm.Goals as goal
 
 pub returns-then-alarm-ne0 : goal.returns-then-alarm-ne0

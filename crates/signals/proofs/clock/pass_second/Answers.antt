@@ -1,9 +1,5 @@
-use borrow.Author.Rules.{rules}
-use Prim.Native.Nat.{◌-◌}
-use lib.ListN.{get_or}
 use Rattle.rules.specs.Clock.{slept}
-use Rattle.places.specs.Places.{NEXT, USED, procs_in}
-use Rattle.signals.proofs.Passing.{Passing, pass-turn, passed, passing}
+use Rattle.signals.proofs.Passing.{pass-turn, passed, passing}
 use Rattle.signals.proofs.clock.pass_second.Goals as goal
 
 pub loop-i-init : goal.loop-i-init

@@ -1,9 +1,8 @@
-use borrow.Author.Rules.{rules}
 use Prim.Native.Nat.{◌-◌}
 use lib.ListN.{get_or}
 use Rattle.rules.specs.Clock.{slept}
 use Rattle.places.specs.Places.{NEXT, USED, procs_in}
-use Rattle.signals.proofs.Passing.{Passing, pass-turn, passed, passing}
+use Rattle.signals.proofs.Passing.{Passing}
 use Rattle.signals.proofs.clock.pass_second.Given as goal
 
 abbrev pub invariant-loop-i : goal.invariant-loop-i

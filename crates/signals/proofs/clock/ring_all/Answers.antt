@@ -1,9 +1,5 @@
-use borrow.Author.Rules.{rules}
-use Prim.Native.Nat.{◌-◌}
-use mathlib.Core.Logic.{⊎_elim}
-use Rattle.places.specs.Places.{machine}
 use Rattle.places.proofs.Laying.{housed}
-use Rattle.signals.proofs.Ringing.{Ringing, rang, rang-all, rang-first, rang-gone, ringing}
+use Rattle.signals.proofs.Ringing.{rang, rang-all, rang-first, rang-gone, ringing}
 use Rattle.signals.proofs.clock.ring_all.Goals as goal
 use Rattle.signals.proofs.clock.ring_all.Goals.{else-k-m, then-k-m}
 
@@ -24,7 +20,7 @@ loop-i-preserved c =
     let v = c.loop-i.invariant in
     let l = c.loop-i-test.true in
     let k = c.find-k.ensures.1 in
-    elim c.if-k-m.branch [ then-k-m w ↦ rw (w.4, w.5) (rang v l k w.3.ensures) | else-k-m w ↦ rw (w.1, w.2) (rang-gone v l k w.if-k-m.false) ]
+    elim c.if-k-m.branch [ then-k-m w ↦ rw (w.m-is, w.t-is) (rang v l k w.ring.ensures) | else-k-m w ↦ rw (w.m-is, w.t-is) (rang-gone v l k w.if-k-m.false) ]
 
 pub returns : goal.returns
 returns c = rang-all c.loop-i.invariant c.loop-i-test.false

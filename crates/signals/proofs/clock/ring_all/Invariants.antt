@@ -1,9 +1,6 @@
-use borrow.Author.Rules.{rules}
 use Prim.Native.Nat.{◌-◌}
-use mathlib.Core.Logic.{⊎_elim}
 use Rattle.places.specs.Places.{machine}
-use Rattle.places.proofs.Laying.{housed}
-use Rattle.signals.proofs.Ringing.{Ringing, rang, rang-all, rang-first, rang-gone, ringing}
+use Rattle.signals.proofs.Ringing.{Ringing}
 use Rattle.signals.proofs.clock.ring_all.Given as goal
 
 abbrev pub invariant-loop-i : goal.invariant-loop-i

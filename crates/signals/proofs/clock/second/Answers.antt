@@ -1,14 +1,9 @@
-use Prim.Native.Nat.{◌-◌}
 use native.Mathlib.Omega.{arith}
 use mathlib.Core.Path.{◌∙◌}
-use mathlib.Core.Logic.{⊎_elim}
-use lib.ListN.{get_or}
 use Rattle.signals.proofs.Seconds.{second}
-use Rattle.places.specs.Places.{USED, NEXT, procs_in}
 use Rattle.places.proofs.Turning.{then}
 use Rattle.signals.proofs.Elapsing.{second_is}
-use Rattle.locking.proofs.Sweep.{Sweep, sweep, sweep-turn, swept}
-use borrow.Author.Rules.{rules}
+use Rattle.locking.proofs.Sweep.{sweep, sweep-turn, swept}
 use Rattle.signals.proofs.clock.second.Goals as goal
 use Rattle.signals.proofs.clock.second.Goals.{else-lose_second, then-lose_second}
 
@@ -21,7 +16,7 @@ loop-i-preserved c =
     let l = c.loop-i-test.true in
     let y = c.lose_second.ensures in
     sweep-turn k l (then y.0 c.lose_alarm.ensures) (second_is _)
-    (elim c.if-lose_second.branch [ then-lose_second w ↦ w.1 ∙ rw w.if-lose_second.true | else-lose_second w ↦ w.1 ∙ rw w.if-lose_second.false (omega arith) ]) y.1
+    (elim c.if-lose_second.branch [ then-lose_second w ↦ w.woken-is ∙ rw w.if-lose_second.true | else-lose_second w ↦ w.woken-is ∙ rw w.if-lose_second.false (omega arith) ]) y.1
 
 pub returns : goal.returns
 returns c =

@@ -1,14 +1,8 @@
 use Prim.Native.Nat.{◌-◌}
-use native.Mathlib.Omega.{arith}
-use mathlib.Core.Path.{◌∙◌}
-use mathlib.Core.Logic.{⊎_elim}
 use lib.ListN.{get_or}
 use Rattle.signals.proofs.Seconds.{second}
 use Rattle.places.specs.Places.{USED, NEXT, procs_in}
-use Rattle.places.proofs.Turning.{then}
-use Rattle.signals.proofs.Elapsing.{second_is}
-use Rattle.locking.proofs.Sweep.{Sweep, sweep, sweep-turn, swept}
-use borrow.Author.Rules.{rules}
+use Rattle.locking.proofs.Sweep.{Sweep}
 use Rattle.signals.proofs.clock.second.Given as goal
 
 abbrev pub invariant-loop-i : goal.invariant-loop-i

@@ -1,7 +1,6 @@
 use mathlib.Core.Path.{sym, ◌∙◌}
 use Rattle.places.proofs.Laying.{housed}
 use Rattle.signals.proofs.Quiet.{quiet-settled}
-use borrow.Author.Rules.{rules}
 use Rattle.signals.proofs.clock.tick.Goals as goal
 
 pub alarm_due-requires : goal.alarm_due-requires

@@ -1,17 +1,12 @@
-use Prim.Native.Nat.{ℕ, ◌-◌, ◌*◌, ◌≤◌}
+use Prim.Native.Nat.{◌*◌}
 use native.Mathlib.Omega.{arith}
 use mathlib.Core.Path.{◌≡◌, ap, ◌∙◌}
-use mathlib.Core.List.{List}
 use lib.ListN.{length, replicate}
 use lib.Seq.{length-paste}
-use Rattle.rules.specs.declared.state.Process.{Process}
-use Rattle.locks.specs.Gaps.{unused}
 use Rattle.locks.proofs.Closing.{unused-none}
 use Rattle.rules.specs.State.{no_process}
-use Rattle.signals.specs.Moved.{Places}
-use Rattle.places.specs.Places.{NUMBERS, PLACE}
+use Rattle.places.specs.Places.{PLACE}
 use Rattle.signals.proofs.Moving.{places-more}
-use borrow.Author.Rules.{rules}
 use Rattle.signals.proofs.endings.clear_places.Goals as goal
 
 pub loop-i-init : goal.loop-i-init

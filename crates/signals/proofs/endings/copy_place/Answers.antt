@@ -1,11 +1,10 @@
-use Prim.Native.Nat.{◌-◌, ◌*◌, ◌≤◌}
+use Prim.Native.Nat.{◌*◌}
 use native.Mathlib.Omega.{arith}
 use mathlib.Core.Path.{◌≡◌}
 use lib.ListN.{drop}
-use lib.Seq.{paste, paste-zero}
+use lib.Seq.{paste-zero}
 use Rattle.places.specs.Places.{PLACE}
 use Rattle.signals.proofs.Moving.{copy_more}
-use borrow.Author.Rules.{rules}
 use Rattle.signals.proofs.endings.copy_place.Goals as goal
 
 pub loop-f-init : goal.loop-f-init

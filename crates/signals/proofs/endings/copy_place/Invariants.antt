@@ -1,11 +1,8 @@
 use Prim.Native.Nat.{◌-◌, ◌*◌, ◌≤◌}
-use native.Mathlib.Omega.{arith}
 use mathlib.Core.Path.{◌≡◌}
 use lib.ListN.{drop}
-use lib.Seq.{paste, paste-zero}
+use lib.Seq.{paste}
 use Rattle.places.specs.Places.{PLACE}
-use Rattle.signals.proofs.Moving.{copy_more}
-use borrow.Author.Rules.{rules}
 use Rattle.signals.proofs.endings.copy_place.Given as goal
 
 abbrev pub invariant-loop-f : goal.invariant-loop-f

@@ -1,7 +1,6 @@
 use native.Mathlib.Omega.{arith}
 use mathlib.Core.Path.{refl, sym}
 use Rattle.signals.proofs.Losing.{own_row, left-rows, left-count, left_laid, lost}
-use borrow.Author.Rules.{rules}
 use Rattle.signals.proofs.endings.lose_rows.Goals as goal
 
 pub take_out-left-requires : goal.take_out-left-requires
@@ -13,8 +12,8 @@ overflow_cast-m c =
 
 pub grant-woken-requires : goal.grant-woken-requires
 grant-woken-requires c =
-    left_laid c.requires.0 (left-rows c.requires.0 c.requires.1 c.take_out.ensures (own_row c.args.pid) refl)
+    left_laid c.requires.0 (left-rows c.requires.0 c.requires.1 c.take_out-left.ensures (own_row c.args.pid) refl)
 
 pub returns : goal.returns
 returns c =
-    λ r e. lost c.requires.0 (left-rows c.requires.0 c.requires.1 c.take_out.ensures r (sym e)) c.grant-woken.ensures
+    λ r e. lost c.requires.0 (left-rows c.requires.0 c.requires.1 c.take_out-left.ensures r (sym e)) c.grant-woken.ensures

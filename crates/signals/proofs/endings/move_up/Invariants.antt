@@ -1,12 +1,8 @@
-use Prim.Native.Nat.{◌-◌, ◌≤◌, ◌<◌}
-use native.Mathlib.Omega.{arith}
-use mathlib.Core.Path.{◌≡◌, sym}
-use mathlib.Core.Logic.{⊎_elim}
+use Prim.Native.Nat.{◌-◌, ◌≤◌}
+use mathlib.Core.Path.{◌≡◌}
 use lib.ListN.{length, get_or}
 use Rattle.places.specs.Places.{PLACES, USED, NEXT, procs_in}
-use Rattle.places.proofs.Laying.{procs-live}
-use Rattle.signals.proofs.Moving.{Moves, moving, move_up, move-none, move-gone, moved}
-use borrow.Author.Rules.{rules}
+use Rattle.signals.proofs.Moving.{Moves}
 use Rattle.signals.proofs.endings.move_up.Given as goal
 
 abbrev pub invariant-loop-i : goal.invariant-loop-i

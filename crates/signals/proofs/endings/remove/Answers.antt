@@ -1,6 +1,5 @@
 use native.Mathlib.Omega.{arith}
 use Rattle.signals.proofs.Moving.{moved-long, removed}
-use borrow.Author.Rules.{rules}
 use Rattle.signals.proofs.endings.remove.Goals as goal
 
 pub clear_places-requires : goal.clear_places-requires

@@ -1,6 +1,5 @@
 use native.Mathlib.Omega.{arith}
 use Rattle.signals.proofs.Comparing.{up-absent, up-awake, up-here}
-use borrow.Author.Rules.{rules}
 use Rattle.signals.proofs.masks.is_up.Goals as goal
 
 pub returns-then-k-m : goal.returns-then-k-m

@@ -1,7 +1,4 @@
-use borrow.Author.Rules.{rules}
-use Prim.Native.Nat.{◌-◌}
-use Rattle.places.specs.Places.{procs_in}
-use Rattle.signals.proofs.Noting.{Noting, note-more, noted, noting}
+use Rattle.signals.proofs.Noting.{note-more, noted, noting}
 use Rattle.signals.proofs.masks.note.Goals as goal
 
 pub loop-i-init : goal.loop-i-init

@@ -1,7 +1,6 @@
-use borrow.Author.Rules.{rules}
 use Prim.Native.Nat.{◌-◌}
 use Rattle.places.specs.Places.{procs_in}
-use Rattle.signals.proofs.Noting.{Noting, note-more, noted, noting}
+use Rattle.signals.proofs.Noting.{Noting}
 use Rattle.signals.proofs.masks.note.Given as goal
 
 abbrev pub invariant-loop-i : goal.invariant-loop-i

@@ -4,7 +4,6 @@ use Rattle.rules.specs.State.{ignore}
 use Rattle.places.proofs.Turning.{turn_is}
 use Rattle.places.proofs.Sevens.{turn-address, turn-reaction}
 use Rattle.signals.proofs.Traps.{turn-pending, trap-turns}
-use borrow.Author.Rules.{rules}
 use Rattle.signals.proofs.signals.trap.Goals as goal
 
 pub returns : goal.returns
