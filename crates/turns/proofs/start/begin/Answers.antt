@@ -1,5 +1,4 @@
 -- `turns::start::begin` meets its contract. Assumes nothing.
-use borrow.Author.Rules.{rules}
 use Rattle.turns.proofs.Starting.{begun}
 use Rattle.turns.proofs.start.begin.Goals as goal
 

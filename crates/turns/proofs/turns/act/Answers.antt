@@ -1,5 +1,4 @@
 -- `turns::turns::act` meets its contract. Assumes nothing.
-use borrow.Author.Rules.{rules}
 use native.Mathlib.Omega.{arith}
 use mathlib.Core.Path.{sym, ◌∙◌}
 use Rattle.places.specs.Places.{caller}

@@ -1,7 +1,4 @@
 -- `turns::turns::call` meets its contract. Assumes nothing.
-use borrow.Author.Rules.{rules}
-use mathlib.Core.Path.{sym, ◌∙◌}
-use mathlib.Core.Logic.{⊎_elim}
 use Rattle.rules.specs.Calls.{of_class}
 use Rattle.rules.specs.Outcome.{badcall, notmodelled}
 use Rattle.places.specs.Places.{caller}

@@ -1,7 +1,5 @@
 -- `turns::turns::do_call` meets its contract. Assumes nothing.
-use borrow.Author.Rules.{rules}
 use mathlib.Core.Path.{refl}
-use mathlib.Core.Logic.{⊎_elim}
 use Rattle.rules.specs.Calls.{do_call}
 use Rattle.rules.specs.Outcome.{badcall}
 use Rattle.turns.proofs.Acting.{next_fits}
@@ -16,19 +14,17 @@ use Rattle.rules.specs.declared.state.Event.{Event}
 use Rattle.locks.specs.Words.{Worded}
 use Rattle.locks.specs.declared.words.Words.{Words}
 use Rattle.turns.proofs.turns.do_call.Goals as goal
+use Rattle.turns.proofs.turns.do_call.Goals.{then-e, else-e, then-e-2, else-e-2}
 
 -- what is asked of the sequence
 asks : (e : Event) {n : ℕ} {w : Words} → n ≡ cond e.named e.d3 0 → Worded e.seq w → Sequence e n w.low w.high
 asks e n w = record { count = n; long = w.long; small = w.small; first = w.first; last = w.last }
 
-
 pub lock-requires : goal.lock-requires
-lock-requires c = (c.requires.0, record { event = c.args.e; asks = asks c.args.e ? c.words_of-w.ensures }, c.requires.1)
-
-
+lock-requires c = (c.requires.0, record { event = c.args.e; asks = asks c.args.e (elim c.if-e.branch [ then-e w ↦ rw w.if-e.true w.lock-is | else-e w ↦ rw w.if-e.false w.lock-is ]) c.words_of-w.ensures }, c.requires.1)
 
 pub unlock-requires : goal.unlock-requires
-unlock-requires c = (c.requires.0, record { event = c.args.e; asks = asks c.args.e ? c.words_of-w-in-Unlock.ensures }, c.requires.1)
+unlock-requires c = (c.requires.0, record { event = c.args.e; asks = asks c.args.e (elim c.if-e-2.branch [ then-e-2 w ↦ rw w.if-e-2.true w.unlock-is | else-e-2 w ↦ rw w.if-e-2.false w.unlock-is ]) c.words_of-w-in-Unlock.ensures }, c.requires.1)
 
 pub fshell-requires : goal.fshell-requires
 fshell-requires c =
@@ -41,11 +37,11 @@ returns-in-Own c = rw c.in-Own.is (call_settled c.requires.0 _ c.args.e (c.own_c
 
 pub returns-after-e : goal.returns-after-e
 unfolding do_call
-returns-after-e c = rw c.in-Lock.is (c.lock.ensures c.args.e (asks c.args.e ? c.words_of-w.ensures) refl)
+returns-after-e c = rw c.in-Lock.is (c.lock.ensures c.args.e (asks c.args.e (elim c.if-e.branch [ then-e w ↦ rw w.if-e.true w.lock-is | else-e w ↦ rw w.if-e.false w.lock-is ]) c.words_of-w.ensures) refl)
 
 pub returns-after-e-2 : goal.returns-after-e-2
 unfolding do_call
-returns-after-e-2 c = rw c.in-Unlock.is (c.unlock.ensures c.args.e (asks c.args.e ? c.words_of-w-in-Unlock.ensures))
+returns-after-e-2 c = rw c.in-Unlock.is (c.unlock.ensures c.args.e (asks c.args.e (elim c.if-e-2.branch [ then-e-2 w ↦ rw w.if-e-2.true w.unlock-is | else-e-2 w ↦ rw w.if-e-2.false w.unlock-is ]) c.words_of-w-in-Unlock.ensures))
 
 pub returns-in-Kill : goal.returns-in-Kill
 unfolding do_call

@@ -1,10 +1,8 @@
 -- `turns::turns::turn` meets its contract. Assumes nothing.
-use borrow.Author.Rules.{rules}
 use native.Mathlib.Omega.{arith}
 use mathlib.Core.Path.{◌≡◌, ap}
 use mathlib.Core.Bool.{false}
-use mathlib.Core.Logic.{⊎_elim}
-use borrow.Author.Tests.{lt-leb, le-leb, ltb-true, eq-eqb, ne_eqb}
+use borrow.Author.Tests.{le-ltb, lt-leb, le-leb, eq-eqb, ne_eqb}
 use Rattle.locks.specs.Lists.{between}
 use Rattle.turns.proofs.Acting.{bad_kind, caller-acts, caller-sleeps, kind-range, no-caller, ticks}
 use Rattle.turns.proofs.Border.{calls, holds-machine, is-asleep, is-awake, is-caller, is_live, not_live, turned}
@@ -39,7 +37,7 @@ returns-then-i-m c =
     let x = c.args in
     let h = c.requires.0 in
     let f = c.find-i.ensures in
-    turned x.e h (no-caller x.e (kind-range x.e.kind c.if-e-lt1.false c.if-e-gt4.false) (ne_eqb _ _ c.if-e-eq2.false) (not_live h x.e.caller f.0 f.1 c.if-i-m.true) h.laid.lays c.refusal-then-i-m.ensures)
+    turned x.e h (no-caller x.e (kind-range x.e.kind c.if-e-lt1.false (le-ltb 4 x.e.kind c.if-e-gt4.false)) (ne_eqb _ _ c.if-e-eq2.false) (not_live h x.e.caller f.0 f.1 c.if-i-m.true) h.laid.lays c.refusal-then-i-m.ensures)
 
 pub of-requires : goal.of-requires
 of-requires c =
@@ -54,7 +52,7 @@ returns-then-of-ne-AWAKE c =
     let h = c.requires.0 in
     let f = c.find-i.ensures in
     let d = c.if-i-m.false in
-    turned x.e h (caller-sleeps x.e (kind-range x.e.kind c.if-e-lt1.false c.if-e-gt4.false) (ne_eqb _ _ c.if-e-eq2.false) (is_live h x.e.caller f.0 f.1 d) (is-caller h x.e.caller f.0 f.1) (is-asleep h x.e.caller f.0 f.1 d c.of.ensures c.if-of-ne-AWAKE.true) h.laid.lays c.refusal-then-of-ne-AWAKE.ensures)
+    turned x.e h (caller-sleeps x.e (kind-range x.e.kind c.if-e-lt1.false (le-ltb 4 x.e.kind c.if-e-gt4.false)) (ne_eqb _ _ c.if-e-eq2.false) (is_live h x.e.caller f.0 f.1 d) (is-caller h x.e.caller f.0 f.1) (is-asleep h x.e.caller f.0 f.1 d c.of.ensures c.if-of-ne-AWAKE.true) h.laid.lays c.refusal-then-of-ne-AWAKE.ensures)
 
 pub act-requires : goal.act-requires
 act-requires c =
@@ -69,4 +67,4 @@ returns c =
     let h = c.requires.0 in
     let f = c.find-i.ensures in
     let d = c.if-i-m.false in
-    turned x.e h (caller-acts x.e (kind-range x.e.kind c.if-e-lt1.false c.if-e-gt4.false) (ne_eqb _ _ c.if-e-eq2.false) (is_live h x.e.caller f.0 f.1 d) (is-caller h x.e.caller f.0 f.1) (is-awake h x.e.caller f.0 f.1 d c.of.ensures c.if-of-ne-AWAKE.false) c.act.ensures)
+    turned x.e h (caller-acts x.e (kind-range x.e.kind c.if-e-lt1.false (le-ltb 4 x.e.kind c.if-e-gt4.false)) (ne_eqb _ _ c.if-e-eq2.false) (is_live h x.e.caller f.0 f.1 d) (is-caller h x.e.caller f.0 f.1) (is-awake h x.e.caller f.0 f.1 d c.of.ensures c.if-of-ne-AWAKE.false) c.act.ensures)
