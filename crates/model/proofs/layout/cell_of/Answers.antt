@@ -1,5 +1,4 @@
 -- `model::layout::cell_of` meets its contract. Assumes nothing.
-use borrow.Author.Rules.{rules}
 use native.Mathlib.Omega.{arith}
 use Rattle.model.proofs.Putting.{cell-tells}
 use Rattle.model.proofs.layout.cell_of.Goals as goal

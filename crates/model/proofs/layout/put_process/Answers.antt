@@ -1,5 +1,4 @@
 -- `model::layout::put_process` meets its contract. Assumes nothing.
-use borrow.Author.Rules.{rules}
 use borrow.Author.Tests.{eq-eqb}
 use Rattle.places.specs.Places.{whole}
 use Rattle.model.proofs.Putting.{thin}

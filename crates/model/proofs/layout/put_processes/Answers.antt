@@ -1,10 +1,8 @@
 -- `model::layout::put_processes` meets its contract. Assumes nothing.
 use borrow.Author.Rules.{rules}
-use Prim.Native.Nat.{◌-◌, ◌≤◌}
 use native.Mathlib.Omega.{arith}
 use mathlib.Core.Path.{◌≡◌, refl}
-use lib.ListN.{length, take, length-map}
-use Rattle.model.specs.Fields.{Unnumbered}
+use lib.ListN.{length}
 use Rattle.model.proofs.Putting.{put-more, put-none}
 use Rattle.model.proofs.layout.put_processes.Goals as goal
 

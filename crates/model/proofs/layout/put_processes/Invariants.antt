@@ -1,10 +1,7 @@
 -- `model::layout::put_processes` meets its contract. Assumes nothing.
 use Prim.Native.Nat.{◌-◌, ◌≤◌}
-use native.Mathlib.Omega.{arith}
-use mathlib.Core.Path.{◌≡◌, refl}
-use lib.ListN.{length, take, length-map}
+use lib.ListN.{take}
 use Rattle.model.specs.Fields.{Unnumbered}
-use Rattle.model.proofs.Putting.{put-more, put-none}
 use Rattle.model.proofs.layout.put_processes.Given as goal
 
 abbrev pub invariant-loop-i : goal.invariant-loop-i

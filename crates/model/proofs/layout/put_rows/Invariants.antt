@@ -1,19 +1,7 @@
 -- `model::layout::put_rows` meets its contract. Assumes nothing.
-use borrow.Author.Rules.{rules}
 use Prim.Native.Nat.{◌-◌, ◌≤◌}
-use native.Mathlib.Omega.{arith}
-use mathlib.Core.Path.{◌≡◌, refl}
-use mathlib.Core.List.{[]}
-use mathlib.Core.Bool.{true, false}
-use lib.ListN.{length, get_or, take, length-map}
-use lib.Seq.{get_or-take, length-take-le}
-use Rattle.locks.specs.Rows.{rows_of}
-use Rattle.locks.specs.Words.{fit_row}
-use Rattle.locks.specs.declared.rows.Row.{Row}
-use Rattle.locks.proofs.Lists.{all-at}
+use lib.ListN.{take}
 use Rattle.locks.specs.Cells.{Rows}
-use Rattle.model.proofs.Putting.{take_more}
-use Rattle.turns.proofs.Starting.{rows_none}
 use Rattle.model.proofs.layout.put_rows.Given as goal
 
 abbrev pub invariant-loop-i : goal.invariant-loop-i

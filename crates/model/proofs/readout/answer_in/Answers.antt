@@ -1,5 +1,4 @@
 -- `model::readout::answer_in` meets its contract. Assumes nothing.
-use borrow.Author.Rules.{rules}
 use Rattle.model.proofs.Replying.{told-answer}
 use Rattle.model.proofs.readout.answer_in.Goals as goal
 

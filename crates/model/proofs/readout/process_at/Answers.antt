@@ -1,5 +1,4 @@
 -- `model::readout::process_at` meets its contract. Assumes nothing.
-use borrow.Author.Rules.{rules}
 use Rattle.model.proofs.readout.process_at.Goals as goal
 
 pub returns : goal.returns

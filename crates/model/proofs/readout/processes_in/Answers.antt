@@ -1,10 +1,8 @@
 -- `model::readout::processes_in` meets its contract. Assumes nothing.
-use borrow.Author.Rules.{rules}
-use Prim.Native.Nat.{◌-◌, ◌≤◌}
 use native.Mathlib.Omega.{arith}
-use mathlib.Core.Path.{◌≡◌, ap, ◌∙◌}
+use mathlib.Core.Path.{ap, ◌∙◌}
 use mathlib.Core.List.{List}
-use lib.ListN.{take, set}
+use lib.ListN.{set}
 use lib.Seq.{take_all}
 use Rattle.locks.specs.Lists.{padded}
 use Rattle.rules.specs.State.{no_process}

@@ -1,17 +1,10 @@
 -- `model::readout::processes_in` meets its contract. Assumes nothing.
-use borrow.Author.Rules.{rules}
 use Prim.Native.Nat.{◌-◌, ◌≤◌}
-use native.Mathlib.Omega.{arith}
-use mathlib.Core.Path.{◌≡◌, ap, ◌∙◌}
-use mathlib.Core.List.{List}
-use lib.ListN.{take, set}
-use lib.Seq.{take_all}
+use mathlib.Core.Path.{◌≡◌}
+use lib.ListN.{take}
 use Rattle.locks.specs.Lists.{padded}
 use Rattle.rules.specs.State.{no_process}
-use Rattle.rules.specs.declared.state.Process.{Process}
 use Rattle.places.specs.Places.{PLACES, procs_in}
-use Rattle.model.proofs.Putting.{padded-next}
-use Rattle.model.proofs.Readings.{process-here, procs-count}
 use Rattle.model.proofs.readout.processes_in.Given as goal
 
 abbrev pub invariant-loop-i : goal.invariant-loop-i

@@ -1,5 +1,4 @@
 -- `model::readout::state_in` meets its contract. Assumes nothing.
-use borrow.Author.Rules.{rules}
 use Rattle.model.proofs.Readings.{narrow, owner-narrow, state-read}
 use Rattle.model.proofs.readout.state_in.Goals as goal
 

@@ -1,6 +1,5 @@
 -- `model::steps::fresh` meets its contract. Assumes nothing.
 use mathlib.Core.Path.{◌∙◌}
-use borrow.Author.Rules.{rules}
 use Rattle.model.proofs.steps.fresh.Goals as goal
 
 pub returns : goal.returns

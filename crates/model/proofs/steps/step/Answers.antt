@@ -1,5 +1,4 @@
 -- `model::steps::step` meets its contract. Assumes nothing.
-use borrow.Author.Rules.{rules}
 use mathlib.Core.Path.{refl, sym, ◌∙◌}
 use borrow.Author.Tests.{not-true, not-false}
 use Rattle.model.proofs.Readings.{held-state, step-refused, stepped}
