@@ -6,8 +6,6 @@ use mathlib.Core.List.{◌++◌, append-nil, append_assoc}
 use native.Mathlib.Omega.{arith}
 use lib.ListN.{length, take, drop, take-append-drop}
 use lib.Seq.{drop-drop}
-use Rattle.rules.specs.State.{laid, fresh}
-use Rattle.turns.specs.Turn.{Holds, state_in}
 use Rattle.papers.specs.Bytes.{joined}
 use Rattle.papers.specs.Answers.{reply_bytes}
 use Rattle.marker.proofs.Turns.{left, left-played, tail-take, tail-drop}
@@ -34,16 +32,16 @@ loop-i-preserved c =
     let put = c.put_reply in
     let t = c.loop-i-test.true in
     let at = 16 * l.i in
-    let e = reply_bytes u.new.0 in
+    let e = reply_bytes u.new.out in
     let q : 16 * (l.i + 1) ≡ at + 16 = omega arith in
     let h : at + 16 ≤ length l.out = omega (arith, l.invariant.2, c.requires, t) in
     let k : length e ≡ 16 = ap (λ x. length (reply_bytes x)) u.ensures.answer in
     let f = left-played c.args.p.now c.args.n l.i t c.event.ensures u.ensures in (
       search rules,
       u.ensures.holds,
-      c.out-1.is ∙ l.invariant.2,
-      rw q (tail-drop l.out e put.new.0 at 16 h k put.ensures ∙ sym (drop-drop 16 at l.out) ∙ ap (drop 16) l.invariant.3 ∙ drop-drop 16 at c.args.out.now),
-      rw (q, tail-take l.out e put.new.0 at 16 h k put.ensures, append_assoc) (l.invariant.4 ∙ ap (λ x. take at l.out ++ joined x) f),
+      search rules,
+      rw q (tail-drop l.out e put.new.out at 16 h k put.ensures ∙ sym (drop-drop 16 at l.out) ∙ ap (drop 16) l.invariant.3 ∙ drop-drop 16 at c.args.out.now),
+      rw (q, tail-take l.out e put.new.out at 16 h k put.ensures, append_assoc) (l.invariant.4 ∙ ap (λ x. take at l.out ++ joined x) f),
     )
 
 pub returns : goal.returns

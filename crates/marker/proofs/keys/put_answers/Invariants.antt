@@ -1,16 +1,12 @@
 -- `marker::keys::put_answers` meets its contract. Assumes nothing.
-use borrow.Author.Rules.{rules}
-use Prim.Native.Nat.{◌+◌, ◌-◌, ◌*◌, ◌≤◌}
-use mathlib.Core.Path.{◌≡◌, refl, sym, ◌∙◌, ap}
-use mathlib.Core.List.{◌++◌, append-nil, append_assoc}
-use native.Mathlib.Omega.{arith}
-use lib.ListN.{length, take, drop, take-append-drop}
-use lib.Seq.{drop-drop}
+use Prim.Native.Nat.{◌-◌, ◌*◌, ◌≤◌}
+use mathlib.Core.Path.{◌≡◌}
+use mathlib.Core.List.{◌++◌}
+use lib.ListN.{length, take, drop}
 use Rattle.rules.specs.State.{laid, fresh}
 use Rattle.turns.specs.Turn.{Holds, state_in}
 use Rattle.papers.specs.Bytes.{joined}
-use Rattle.papers.specs.Answers.{reply_bytes}
-use Rattle.marker.proofs.Turns.{left, left-played, tail-take, tail-drop}
+use Rattle.marker.proofs.Turns.{left}
 use Rattle.marker.proofs.keys.put_answers.Given as goal
 
 -- what is written, and what is left of the answers and of the buffer

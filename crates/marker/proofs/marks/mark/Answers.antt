@@ -1,6 +1,5 @@
 -- `marker::marks::mark` meets its contract. Assumes nothing.
-use borrow.Author.Rules.{rules}
-use mathlib.Core.Path.{sym, ◌∙◌}
+use mathlib.Core.Path.{sym}
 use Rattle.papers.proofs.Files.{paper-count, sheet-count}
 use Rattle.marker.specs.Key.{key_places}
 use Rattle.marker.specs.Mark.{marked}
@@ -9,18 +8,18 @@ use Rattle.marker.proofs.marks.mark.Goals as goal
 
 pub returns-in-Refused : goal.returns-in-Refused
 unfolding marked
-returns-in-Refused c = rw (← c.paper.ensures, c.r-1.is)
+returns-in-Refused c = rw (← c.in-Refused.ensures)
 
 pub returns-in-Refused-sheet : goal.returns-in-Refused-sheet
 unfolding marked
-returns-in-Refused-sheet c = rw (← c.paper.ensures, c.total-1.is, ← c.sheet.ensures, c.r-in-Refused-sheet-1.is)
+returns-in-Refused-sheet c = rw (← c.in-Count.ensures, ← c.in-Refused-sheet.ensures)
 
 pub returns-in-Count-sheet : goal.returns-in-Count-sheet
 unfolding marked key_places
 returns-in-Count-sheet c =
     let a = c.args in
-    let e = sym c.paper.ensures ∙ c.total-1.is in
-    let f = sym c.sheet.ensures ∙ c.answers-1.is in
+    let e = sym c.in-Count.ensures in
+    let f = sym c.in-Count-sheet.ensures in
     rw (
       e,
       f,

@@ -1,6 +1,5 @@
 -- `marker::marks::perfect` meets its contract. Assumes nothing.
-use borrow.Author.Rules.{rules}
 use Rattle.marker.proofs.marks.perfect.Goals as goal
 
 pub returns-in-Mark : goal.returns-in-Mark
-returns-in-Mark c = rw c.m-1.is
+returns-in-Mark c = rw c.in-Mark.is

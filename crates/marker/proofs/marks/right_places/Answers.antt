@@ -1,35 +1,37 @@
 -- `marker::marks::right_places` meets its contract. Assumes nothing.
 use borrow.Author.Rules.{rules}
-use Prim.Native.Nat.{◌+◌, ◌-◌, ◌*◌, ◌≤◌}
+use Prim.Native.Nat.{◌+◌, ◌-◌, ◌*◌}
 use mathlib.Core.Path.{◌≡◌, refl, sym, ◌∙◌, ap}
 use mathlib.Core.Bool.{cond}
-use mathlib.Core.Logic.{⊎_elim}
 use mathlib.Core.List.{map}
 use native.Mathlib.Nat.{zero-add, add-zero}
 use native.Mathlib.Omega.{arith}
 use lib.ListN.{length}
-use Rattle.rules.specs.State.{laid, fresh}
 use Rattle.rules.specs.Play.{answers_from}
-use Rattle.turns.specs.Turn.{Holds, state_in}
+use Rattle.turns.specs.Turn.{state_in}
 use Rattle.papers.specs.Bytes.{sixteens_from}
 use Rattle.papers.specs.Events.{events_from}
 use Rattle.papers.specs.Answers.{answer_bytes}
 use Rattle.marker.specs.Mark.{right_places}
 use Rattle.marker.proofs.Turns.{left, left-played, sheet-one}
+use Prim.Native.Nat.{ℕ, ◌<◌}
+use mathlib.Core.List.{List}
+use mathlib.Core.Bool.{Bool}
+use Rattle.rules.specs.declared.state.Event.{Event}
+use Rattle.locks.specs.Lists.{agree}
+use Rattle.papers.specs.Bytes.{run}
+use Rattle.papers.specs.Answers.{reply_bytes}
+use Rattle.papers.specs.Events.{event_at}
+use Rattle.turns.specs.Turn.{Turned}
 use Rattle.marker.proofs.marks.right_places.Goals as goal
 use Rattle.marker.proofs.marks.right_places.Goals.{else-stands_at, then-stands_at}
 
 -- in a turn: the place at hand, and what is left after it
-turn : (c : tie.After-stands-at invariant-loop decreases-loop)
-    → (let o = c.before.before.before.before.before.before.before.before.before.before.before.before.before in let l = c.before.before.before.before.before.before.before.before.loop in let u = c.before.before.turn in
-    right_places (left (state_in l.m l.t) o.args.p.now o.args.n l.i) (sixteens_from o.args.sheet.now (6 + 16 * l.i) (o.args.n - l.i))
-    ≡ cond c.stands_at.result 1 0 + right_places (left (state_in u.new.1.0 u.new.1.1.0) o.args.p.now o.args.n (l.i + 1)) (sixteens_from o.args.sheet.now (6 + 16 * (l.i + 1)) (o.args.n - (l.i + 1))))
-turn c =
-    let o = c.before.before.before.before.before.before.before.before.before.before.before.before.before in
-    let l = c.before.before.before.before.before.before.before.before.loop in
-    let u = c.before.before.turn in
-    let t = c.before.before.before.before.before.before.before.loop-test.true in
-    rw (left-played o.args.p.now o.args.n l.i t c.before.before.before.event.ensures u.ensures, sheet-one o.args.sheet.now o.args.n l.i t, c.stands_at.ensures)
+turn : (p sheet : List ℕ) (n i : ℕ) {m t out after rows : List ℕ} {e : Event} {b : Bool} → i < n → e ≡ event_at p (12 + 20 * i) → Turned m t e out after rows
+    → b ≡ agree 16 (reply_bytes out) (run sheet (6 + 16 * i) 16)
+    → right_places (left (state_in m t) p n i) (sixteens_from sheet (6 + 16 * i) (n - i))
+    ≡ cond b 1 0 + right_places (left (state_in after rows) p n (i + 1)) (sixteens_from sheet (6 + 16 * (i + 1)) (n - (i + 1)))
+turn p sheet n i l e u h = rw (left-played p n i l e u, sheet-one sheet n i l, h)
 
 pub begin-requires : goal.begin-requires
 begin-requires c = refl
@@ -49,7 +51,7 @@ stands_at-requires c = ap length c.turn.ensures.answer
 pub loop-i-preserved : goal.loop-i-preserved
 loop-i-preserved c =
     let l = c.loop-i in
-    let e = l.invariant.3 ∙ ap (λ x. l.right + x) (turn c) in (
+    let e = l.invariant.3 ∙ ap (λ x. l.right + x) (turn c.args.p.now c.args.sheet.now c.args.n l.i c.loop-i-test.true c.event.ensures c.turn.ensures c.stands_at.ensures) in (
       search rules,
       elim c.if-stands_at.branch [ then-stands_at w ↦ omega arith | else-stands_at w ↦ omega arith ],
       c.turn.ensures.holds,

@@ -1,21 +1,11 @@
 -- `marker::marks::right_places` meets its contract. Assumes nothing.
-use borrow.Author.Rules.{rules}
 use Prim.Native.Nat.{◌+◌, ◌-◌, ◌*◌, ◌≤◌}
-use mathlib.Core.Path.{◌≡◌, refl, sym, ◌∙◌, ap}
-use mathlib.Core.Bool.{cond}
-use mathlib.Core.Logic.{⊎_elim}
-use mathlib.Core.List.{map}
-use native.Mathlib.Nat.{zero-add, add-zero}
-use native.Mathlib.Omega.{arith}
-use lib.ListN.{length}
+use mathlib.Core.Path.{◌≡◌}
 use Rattle.rules.specs.State.{laid, fresh}
-use Rattle.rules.specs.Play.{answers_from}
 use Rattle.turns.specs.Turn.{Holds, state_in}
 use Rattle.papers.specs.Bytes.{sixteens_from}
-use Rattle.papers.specs.Events.{events_from}
-use Rattle.papers.specs.Answers.{answer_bytes}
 use Rattle.marker.specs.Mark.{right_places}
-use Rattle.marker.proofs.Turns.{left, left-played, sheet-one}
+use Rattle.marker.proofs.Turns.{left}
 use Rattle.marker.proofs.marks.right_places.Given as goal
 
 -- what is counted, and what is left of the two lists
