@@ -1,24 +1,42 @@
-// A file by its name, as the programs read it.
+// Files and standard input, as the programs read them.
 #![tactic(auto)]
 
-ghost use Rattle.io.specs.Counts.{IsPrefixLen};
+ghost use Rattle.std.specs.Prelude.{IfOk};
+ghost use Rattle.files.specs.Counts.{IsPrefixLen};
+
+use std::io::Read;
+use std::rt::Files;
+use std::{fs, io};
+
+// Reads into buf until it is full or the input ends, and answers how many bytes of it were read.
+pub fn fill<R: Read>(input: &mut R, buf: &mut [u8]) -> io::Result<usize>
+    ensures { IfOk result (λ n. IsPrefixLen n buf.new) }
+{
+    let mut done = 0;
+    while done < buf.len() {
+        let n = input.read(&mut buf[done..])?;
+        if n == 0 {
+            break;
+        }
+        done += n;
+    }
+    Ok(done)
+}
+
+fn fill_from_file<F: Files>(rt: &F, path: &str, buf: &mut [u8]) -> io::Result<usize>
+    ensures { IfOk result (λ n. IsPrefixLen n buf.new) }
+{
+    let mut file = fs::open(rt, path)?;
+    fill(&mut file, buf)
+}
 
 // Puts a file at the start of buf, and answers how many bytes of it are there: all of them, or buf's length where the file has as many or more.
 // "A file that cannot be read counts as empty": also one that cannot be read to its end.
-pub fn load(path: &[u8], buf: &mut [u8]) -> usize
+pub fn load<F: Files>(rt: &F, path: &str, buf: &mut [u8]) -> usize
     ensures { IsPrefixLen result buf.new }
 {
-    let fd = os::open_read(path);
-    if fd < 0 {
-        return 0;
+    match fill_from_file(rt, path, buf) {
+        Ok(n) => n,
+        Err(_) => 0,
     }
-    let n = io::read_full(fd, buf);
-    // A read that fails stops read_full as the end does, but only at the end does one more read answer 0.
-    let mut next = [0u8; 1];
-    let more = libc::read(fd, &mut next);
-    libc::close(fd);
-    if n < buf.len() && more != 0 {
-        return 0;
-    }
-    n
 }
