@@ -1,27 +1,30 @@
--- The fewest digits that hold a number are its digits. Assumes nothing.
-use Prim.Native.Nat.{ℕ, zero, suc, ◌^◌, ◌≤◌, ◌<◌}
-use native.Mathlib.Nat.{le_trans, pow-le-pow_right}
-use native.Mathlib.Omega.{arith}
-use mathlib.Core.Path.{◌≡◌}
-use borrow.Author.Tests.{lt-ltb, le-ltb}
-use Rattle.io.specs.Digits.{IsDigitCount}
-use Rattle.line.specs.Line.{digit_count}
+-- A number of several digits is a tenth of it, and one digit more. Assumes nothing.
+use Rattle.std.proofs.Common.{ℕ, zero, suc, ◌≡◌, ◌+◌, ◌/◌, ◌%◌, ◌<◌, ◌≤◌, [], ◌∷◌, ◌++◌, length, arith}
+use mathlib.Core.Path.{refl}
+use lib.ListN.{length-append}
+use Rattle.line.specs.Line.{digit_count, last_digits, decimal}
 
-pub fewest : (n k : ℕ) → n < 100000 → IsDigitCount 10 1 n k → (k ≡ digit_count n) × (k ≤ 5)
-fewest n zero h f = omega arith
-fewest n (suc zero) h f = (rw (lt-ltb n 10 (omega arith)), omega arith)
-fewest n (suc (suc zero)) h f =
-    let g = f.2 (omega arith) in
-    (rw (le-ltb n 10 (omega arith), lt-ltb n 100 (omega arith)), omega arith)
-fewest n (suc (suc (suc zero))) h f =
-    let g = f.2 (omega arith) in
-    (rw (le-ltb n 10 (omega arith), le-ltb n 100 (omega arith), lt-ltb n 1000 (omega arith)), omega arith)
-fewest n (suc (suc (suc (suc zero)))) h f =
-    let g = f.2 (omega arith) in
-    (rw (le-ltb n 10 (omega arith), le-ltb n 100 (omega arith), le-ltb n 1000 (omega arith), lt-ltb n 10000 (omega arith)), omega arith)
-fewest n (suc (suc (suc (suc (suc zero))))) h f =
-    let g = f.2 (omega arith) in
-    (rw (le-ltb n 10 (omega arith), le-ltb n 100 (omega arith), le-ltb n 1000 (omega arith), le-ltb n 10000 (omega arith)), omega arith)
-fewest n (suc (suc (suc (suc (suc (suc k)))))) h f =
-    let g : 10 ^ 5 ≤ n = le_trans (pow-le-pow_right {n = 10} (omega arith) {i = 5} (omega arith)) (f.2 (omega arith)) in
-    omega arith
+pub one_digit : (n : ℕ) → n < 10 → digit_count n ≡ 1
+one_digit n h = grind arith
+
+pub digit_more : (n : ℕ) → 10 ≤ n → n < 100000 → digit_count n ≡ suc (digit_count (n / 10))
+digit_more n h k = grind arith
+
+pub at_most_five : (n : ℕ) → digit_count n ≤ 5
+at_most_five n = grind arith
+
+pub one : (n : ℕ) → n < 10 → decimal n ≡ (48 + n % 10) ∷ []
+unfolding decimal
+one n h = rw one_digit refl
+
+pub more : (n : ℕ) → 10 ≤ n → n < 100000 → decimal n ≡ decimal (n / 10) ++ ((48 + n % 10) ∷ [])
+unfolding decimal
+more n h k = rw digit_more refl
+
+last_long : (k n : ℕ) → length (last_digits k n) ≡ k
+last_long zero n = refl
+last_long (suc k) n = let h = last_long k (n / 10) in simp length-append (omega arith)
+
+pub digits_long : (n : ℕ) → length (decimal n) ≡ digit_count n
+unfolding decimal
+digits_long n = last_long (digit_count n) n

@@ -1,22 +1,21 @@
 -- Texts put into a buffer, one after another. Assumes nothing.
-use Prim.Native.Nat.{ℕ, suc, ◌+◌, ◌-◌, ◌≤◌}
+use Prim.Native.Nat.{ℕ, suc, ◌+◌, ◌≤◌}
 use native.Mathlib.Nat.{add-zero, zero-add}
 use native.Mathlib.Omega.{arith}
 use mathlib.Core.Path.{◌≡◌, refl, sym, ◌∙◌}
-use mathlib.Core.List.{List, [], ◌∷◌, ◌++◌}
+use mathlib.Core.List.{List, [], ◌∷◌, ◌++◌, append_assoc}
 use lib.ListN.{length, take, drop, set, length-append}
-use lib.Seq.{sets, sets-eq, length-sets, take_at, drop_at, take-length}
-use Rattle.marker.proofs.Turns.{whole}
+use lib.Seq.{sets, sets-eq, length-sets, take_at, drop_at, drop-drop}
+use borrow.Rule.Slice.PartMut.{put_mid}
 use Rattle.line.specs.Line.{Put, Printed}
 
--- a text copied to the start of the tail from `at` on
-module _ (text o y : List ℕ) (at : ℕ) (h : at + length text ≤ length o)
-    (e : y ≡ take (length text) text ++ drop (length text) (take (length o - at) (drop at o))) where
-  in_tail : take at o ++ (y ++ drop (length o - at) (drop at o)) ≡ sets o at text
-  in_tail = whole o text y at (length text) h refl (rw take-length at e) ∙ sym (sets-eq text o at h)
+-- a text copied over a part of the buffer, k bytes from `at` on
+module _ (text o y : List ℕ) (at k : ℕ) (h : at + length text ≤ length o) (l : k ≡ length text) (e : y ≡ text) where
+  part_stored : put_mid at k o y ≡ sets o at text
+  part_stored = rw (e, l, drop-drop) (sym (append_assoc (take at o) text (drop (at + length text) o)) ∙ sym (sets-eq text o at h))
 
-  pub to-tail : Put text at o (at + length text) (take at o ++ (y ++ drop (length o - at) (drop at o)))
-  to-tail = record { ends = refl; room = rw (in_tail, length-sets) h; stored = in_tail }
+  pub to-part : Put text at o (at + length text) (put_mid at k o y)
+  to-part = record { ends = refl; room = rw (part_stored, length-sets) h; stored = part_stored }
 
 sets-append : (x y l : List ℕ) (i : ℕ) → sets l i (x ++ y) ≡ sets (sets l i x) (i + length x) y
 sets-append [] y l i = rw add-zero

@@ -1,10 +1,8 @@
 -- The line that a program prints, as bytes. Assumes nothing.
-use Rattle.std.specs.Prelude.{ℕ, zero, suc, ◌+◌, ◌≤◌, ◌≡◌, cond, List, [], ◌∷◌, ◌++◌, length, take, drop, ltb}
+use Rattle.std.specs.Prelude.{ℕ, zero, suc, ◌+◌, ◌/◌, ◌%◌, ◌≤◌, ◌≡◌, cond, List, [], ◌∷◌, ◌++◌, length, take, drop, ltb}
 use Prim.Native.Char.{code}
 use Prim.Native.String.{String, len, char_at}
 use Rattle.std.proofs.lemmas.List.Edits.{sets}
-use Rattle.io.specs.Counts.{IsPrefixLen}
-use Rattle.io.specs.Digits.{last_digits}
 use Rattle.papers.specs.Fields.{number_of}
 use Rattle.papers.specs.declared.layout.Refusal.{Refusal}
 use Rattle.papers.specs.declared.layout.Refusal.TheVariants.{Badpaper, Blank, Badsheet, Noroom}
@@ -25,9 +23,14 @@ ascii s = codes s 0 (len s)
 abbrev pub digit_count : ℕ → ℕ
 digit_count n = cond (ltb n 10) 1 (cond (ltb n 100) 2 (cond (ltb n 1000) 3 (cond (ltb n 10000) 4 5)))
 
+-- the last k digits of a number in decimal, the most significant first
+abbrev pub last_digits : ℕ → ℕ → List ℕ
+last_digits zero n = []
+last_digits (suc k) n = last_digits k (n / 10) ++ ((48 + n % 10) ∷ [])
+
 -- a number below 100,000 in decimal, without zeros in front
 unfoldable pub decimal : ℕ → List ℕ
-decimal n = last_digits 10 (digit_count n) n
+decimal n = last_digits (digit_count n) n
 
 -- a number behind its name
 abbrev pub named : String → ℕ → List ℕ
@@ -55,6 +58,10 @@ line_of (Mark total right missing surplus) =
     numbers_of total right missing surplus
     ++ ascii (cond (is_perfect (Mark total right missing surplus)) " perfect yes\n" " perfect no\n")
 line_of (Refused r) = refused_line r
+
+-- `&xs[..n]` is in bounds, and has n bytes
+abbrev pub IsPrefixLen : ℕ → List ℕ → Type 0
+IsPrefixLen n xs = (n ≤ length xs) × (n ≡ length (take n xs))
 
 -- the first n bytes of the buffer are the line, and the bytes after them are as they were
 pub record Printed (line before : List ℕ) (n : ℕ) (after : List ℕ) : Type 0 where

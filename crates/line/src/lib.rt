@@ -2,7 +2,7 @@
 #![tactic(auto)]
 
 ghost use Rattle.std.specs.Prelude.{◌++◌, ◌+◌, ◌≤◌, length};
-ghost use Rattle.line.specs.Line.{decimal, numbers_of, offset_text, refused_line, line_of, Put, Printed};
+ghost use Rattle.line.specs.Line.{digit_count, decimal, numbers_of, offset_text, refused_line, line_of, Put, Printed};
 
 use marker::marks::Marked;
 use papers::layout::{Refusal, number_of};
@@ -17,6 +17,19 @@ fn put(text: &[u8], at: usize, out: &mut [u8]) -> usize
     end
 }
 
+// Puts a number into out from `at` on, without zeros in front, and answers where it ends.
+fn put_number(n: u16, at: usize, out: &mut [u8; 64]) -> usize
+    requires { at + digit_count n ≤ 64 }
+    ensures { Put (decimal n) at out.old result out.new }
+{
+    let last = [b'0' + (n % 10) as u8];
+    if n < 10 {
+        return put(&last, at, out);
+    }
+    let end = put_number(n / 10, at, out);
+    put(&last, end, out)
+}
+
 // Puts a number behind its name into out from `at` on, and answers where it ends.
 fn put_named(name: &[u8], n: u16, at: usize, out: &mut [u8; 64]) -> usize
     requires { at + length name.now + 5 ≤ 64 }
@@ -24,9 +37,7 @@ fn put_named(name: &[u8], n: u16, at: usize, out: &mut [u8; 64]) -> usize
     ensures put { Put (name.now ++ decimal n) at out.old result out.new }
 {
     let start = put(name, at, out);
-    let mut digits = [0u8; 20];
-    let k = io::decimal(n as u64, &mut digits);
-    put(&digits[..k], start, out)
+    put_number(n, start, out)
 }
 
 // Puts the offset of a refusal, if it has one, behind a space into out from `at` on, and answers where it ends.

@@ -1,5 +1,4 @@
 -- `line::line` meets its contract. Assumes nothing.
-use borrow.Author.Rules.{rules}
 use mathlib.Core.Path.{sym, ◌∙◌}
 use Rattle.line.proofs.Puts.{then, printed}
 use Rattle.line.specs.Line.{line_of}
@@ -7,16 +6,16 @@ use Rattle.line.proofs.line.Goals as goal
 
 pub returns-in-Refused : goal.returns-in-Refused
 unfolding line_of
-returns-in-Refused c = rw c.m-1.is c.refused.ensures
+returns-in-Refused c = rw c.in-Refused.is c.refused.ensures
 
 pub returns-then-perfect : goal.returns-then-perfect
 unfolding line_of
 returns-then-perfect c =
     let t = sym c.perfect.ensures ∙ c.if-perfect.true in
-    rw (c.m-in-Mark-1.is, t) (printed (then c.put_numbers-at.ensures.1 c.put.ensures))
+    rw (c.in-Mark.is, t) (printed (then c.put_numbers-at.ensures.put c.put.ensures))
 
 pub returns-else-perfect : goal.returns-else-perfect
 unfolding line_of
 returns-else-perfect c =
     let t = sym c.perfect.ensures ∙ c.if-perfect.false in
-    rw (c.m-in-Mark-1.is, t) (printed (then c.put_numbers-at.ensures.1 c.put-else-perfect.ensures))
+    rw (c.in-Mark.is, t) (printed (then c.put_numbers-at.ensures.put c.put-else-perfect.ensures))

@@ -1,21 +1,19 @@
 -- `line::put_offset` meets its contract. Assumes nothing.
-use borrow.Author.Rules.{rules}
-use native.Mathlib.Omega.{arith}
 use Rattle.line.specs.Line.{offset_text}
 use Rattle.line.proofs.put_offset.Goals as goal
 
-pub returns-in-Badpaper : goal.returns-in-Badpaper
+pub returns-in-Badpaper-clause-put : goal.returns-in-Badpaper-clause-put
 unfolding offset_text
-returns-in-Badpaper c = (omega arith, rw c.r-1.is c.put_named.ensures.1)
+returns-in-Badpaper-clause-put c = rw c.in-Badpaper.is c.put_named.ensures.put
 
-pub returns-in-Badsheet : goal.returns-in-Badsheet
+pub returns-in-Badsheet-clause-put : goal.returns-in-Badsheet-clause-put
 unfolding offset_text
-returns-in-Badsheet c = (omega arith, rw c.r-in-Badsheet-1.is c.put_named-in-Badsheet.ensures.1)
+returns-in-Badsheet-clause-put c = rw c.in-Badsheet.is c.put_named-in-Badsheet.ensures.put
 
-pub returns-in-Blank : goal.returns-in-Blank
+pub returns-in-Blank-clause-put : goal.returns-in-Blank-clause-put
 unfolding offset_text
-returns-in-Blank c = (omega (arith, c.put.ensures.ends), rw c.enum_told-1.is c.put.ensures)
+returns-in-Blank-clause-put c = rw c.in-Blank.is c.put.ensures
 
-pub returns-in-Noroom : goal.returns-in-Noroom
+pub returns-in-Noroom-clause-put : goal.returns-in-Noroom-clause-put
 unfolding offset_text
-returns-in-Noroom c = (omega (arith, c.put-in-Noroom.ensures.ends), rw c.enum_told-in-Noroom-1.is c.put-in-Noroom.ensures)
+returns-in-Noroom-clause-put c = rw c.in-Noroom.is c.put-in-Noroom.ensures

@@ -1,5 +1,4 @@
 -- `line::refused` meets its contract. Assumes nothing.
-use borrow.Author.Rules.{rules}
 use Rattle.line.proofs.Puts.{then, printed}
 use Rattle.line.specs.Line.{refused_line}
 use Rattle.line.proofs.refused.Goals as goal
@@ -7,4 +6,4 @@ use Rattle.line.proofs.refused.Goals as goal
 pub returns : goal.returns
 unfolding refused_line
 returns c =
-    printed (then (then (rw c.number_of.ensures at c.put_named-at.ensures.1) c.put_offset-end.ensures.1) c.put.ensures)
+    printed (then (then (rw c.number_of.ensures at c.put_named-at.ensures.put) c.put_offset-end.ensures.put) c.put.ensures)
