@@ -46,15 +46,13 @@ fn key_number(k: Keyed) -> u64
     }
 }
 
-#[unsafe(no_mangle)]
-pub extern "C" fn brinefeather_mark(paper: &[u8], sheet: &[u8]) -> u64
+pub fn brinefeather_mark(paper: &[u8], sheet: &[u8]) -> u64
     ensures { result ≡ mark_number (marked paper.now sheet.now) }
 {
     mark_number(mark(paper, sheet))
 }
 
-#[unsafe(no_mangle)]
-pub extern "C" fn brinefeather_key(paper: &[u8], key: &mut [u8]) -> u64
+pub fn brinefeather_key(paper: &[u8], key: &mut [u8]) -> u64
     ensures { (result ≡ key_number (keyed paper.now key.old).0) × (key.new ≡ (keyed paper.now key.old).1) }
 {
     key_number(marker::key(paper, key))

@@ -1,4 +1,4 @@
-// The routines for C: each answers one 64-bit number. The archive that C links is made of this crate.
+// The routines that C calls: each answers one 64-bit number.
 #![tactic(auto)]
 
 mod desk;

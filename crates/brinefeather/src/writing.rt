@@ -37,16 +37,14 @@ fn added_number(a: Added) -> u64
     }
 }
 
-#[unsafe(no_mangle)]
-pub extern "C" fn brinefeather_add_sequence(writer: u64, paper: &mut [u8], sequence: &[u8]) -> u64
+pub fn brinefeather_add_sequence(writer: u64, paper: &mut [u8], sequence: &[u8]) -> u64
     ensures { (result ≡ added_number (added (writer_of writer) paper.old (Item·sequence (run sequence.now 0 16))).0) × (paper.new ≡ (added (writer_of writer) paper.old (Item·sequence (run sequence.now 0 16))).1) }
 {
     let s = sequence_of(sequence);
     added_number(add_sequence(writer_of(writer), paper, s))
 }
 
-#[unsafe(no_mangle)]
-pub extern "C" fn brinefeather_add_event(writer: u64, paper: &mut [u8], event: &[u8]) -> u64
+pub fn brinefeather_add_event(writer: u64, paper: &mut [u8], event: &[u8]) -> u64
     ensures { (result ≡ added_number (added (writer_of writer) paper.old (Item·event (entry_at event.now 0))).0) × (paper.new ≡ (added (writer_of writer) paper.old (Item·event (entry_at event.now 0))).1) }
 {
     let e = entry_of(event);

@@ -8,13 +8,15 @@ mod stories;
 mod tables;
 mod text;
 
-fn main() {
-    tables::sequences();
-    tables::kinds();
-    tables::rows_go();
-    tables::rings();
-    tables::ways_back();
-    tables::sharing();
-    tables::full();
-    stories::play_all();
+use std::io;
+
+fn main(rt: HostRuntime) -> io::Result<()> {
+    tables::sequences(&rt)?;
+    tables::kinds(&rt)?;
+    tables::rows_go(&rt)?;
+    tables::rings(&rt)?;
+    tables::ways_back(&rt)?;
+    tables::sharing(&rt)?;
+    tables::full(&rt)?;
+    stories::play_all(&rt)
 }

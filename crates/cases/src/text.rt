@@ -1,26 +1,23 @@
 // What the cases write.
 use crate::held::*;
 use locks::rows::{Row, Standing};
+use std::io;
 
-pub(crate) fn say(line: &[u8]) {
-    io::write_all(1, line);
-    io::write_all(1, b"\n");
+pub(crate) fn say(rt: &impl Print, line: &str) -> io::Result<()> {
+    println!(rt; "{line}")
 }
 
 // A zero byte is written \0.
-pub(crate) fn quote(s: &[u8]) {
-    io::write_all(1, b"\"");
-    let mut i: usize = 0;
-    while i < s.len() {
-        let x = [s[i]];
-        if x[0] == 0 {
-            io::write_all(1, b"\\0");
+pub(crate) fn quote(rt: &impl Print, s: &[u8]) -> io::Result<()> {
+    print!(rt; "\"")?;
+    for x in s {
+        if *x == 0 {
+            print!(rt; "\\0")?;
         } else {
-            io::write_all(1, &x);
+            rt.write_all(&[*x])?;
         }
-        i += 1;
     }
-    io::write_all(1, b"\"");
+    print!(rt; "\"")
 }
 
 fn waits(t: Held, r: Row) -> bool {
@@ -32,58 +29,52 @@ fn waits(t: Held, r: Row) -> bool {
 }
 
 // What comes of the request r, as the calls' checks go.
-pub(crate) fn answer(t: Held, r: Row) {
+pub(crate) fn answer(rt: &impl Print, t: Held, r: Row) -> io::Result<()> {
     if has_twin(t, r) {
-        say(b": has its row already");
-        return;
-    }
-    if !waits(t, r) {
-        say(b": held");
-        return;
-    }
-    if closes(t, r) {
-        say(b": deadlock");
+        say(rt, ": has its row already")
+    } else if !waits(t, r) {
+        say(rt, ": held")
+    } else if closes(t, r) {
+        say(rt, ": deadlock")
     } else {
-        say(b": waits");
+        say(rt, ": waits")
     }
 }
 
-fn quote_first(bytes: [u8; 16], n: usize) {
+fn quote_first(rt: &impl Print, bytes: [u8; 16], n: usize) -> io::Result<()> {
     if n < 16 {
-        quote(&bytes[0..n]);
+        quote(rt, &bytes[0..n])
     } else {
-        quote(&bytes);
+        quote(rt, &bytes)
     }
 }
 
 // A row that stands behind the table t.
-fn show_row(t: Held, r: Row) {
-    io::write_all(1, b"  ");
-    io::print_decimal(1, r.owner as u64);
+fn show_row(rt: &impl Print, t: Held, r: Row) -> io::Result<()> {
+    let owner = r.owner;
+    print!(rt; "  {owner}")?;
     if r.shared {
-        io::write_all(1, b" shared ");
+        print!(rt; " shared ")?;
     } else {
-        io::write_all(1, b" unshared ");
+        print!(rt; " unshared ")?;
     }
-    let bytes = r.bytes;
-    quote_first(bytes, r.len as usize);
+    quote_first(rt, r.bytes, r.len as usize)?;
     if waits(t, r) {
-        say(b" waits");
+        say(rt, " waits")
     } else {
-        say(b" held");
+        say(rt, " held")
     }
 }
 
 // The rows, each shown behind those ahead of it.
-pub(crate) fn show(t: Held) {
+pub(crate) fn show(rt: &impl Print, t: Held) -> io::Result<()> {
     let mut ahead = no_rows();
-    let mut i: usize = 0;
-    while i < 32 {
+    for i in 0..32 {
         if i < t.used {
             let r = row_at(t, i);
-            show_row(ahead, r);
+            show_row(rt, ahead, r)?;
             ahead = append(ahead, r);
         }
-        i += 1;
     }
+    Ok(())
 }
