@@ -8,13 +8,8 @@ $(foreach name,PAPER SHEET KEY,$(if $(filter command,$(origin $(name))),,$(eval 
 demo:
 	@examples/demo.sh
 
-# The desk's tests want what rt ci proved and built, and its last line is to stay the last one.
 test: edits
-	@rt fmt --check
-	@set -eu -o pipefail; log=$$(mktemp); trap 'rm -f $$log' EXIT; \
-	rt ci 2>&1 | tee $$log | sed -u '$$d' || { tail -n 1 $$log; exit 1; }; \
-	desk/test.sh; \
-	tail -n 1 $$log
+	@.ci/test.sh
 
 # In a second: do the must-fail edits still fit the files that they edit?
 edits:
@@ -28,4 +23,4 @@ bench:
 	@desk/bench.sh
 
 clean:
-	rm -rf target
+	rm -rf target crates/*/out

@@ -1,7 +1,7 @@
 #!/usr/bin/env bash
 # Measures the archive's routines against plain C and writes docs/PERFORMANCE.md's figures and docs/performance.svg.
 # Usage: [ARCHIVE=libbrinefeather.a] desk/bench.sh [--check] [--quick]
-#   ARCHIVE   an archive that is there already; else `rt staticlib brinefeather` makes it
+#   ARCHIVE   an archive that is there already; else `rt lib` makes it, in crates/brinefeather_c
 #   --check   the exit status is 1 if a bar is missed
 #   --quick   a few seconds, less exact; writes no page
 # shellcheck disable=SC2086,SC2154 # tools.sh sets $cc_packages, $strict, $link and $run; their words are to be split
@@ -23,8 +23,8 @@ need "$cc" $cc_packages
 archive=${ARCHIVE:-$archive}
 made="a given one, \`$archive\`"
 if [ -z "${ARCHIVE:-}" ]; then
-    quietly rt staticlib brinefeather
-    made="made by \`rt staticlib brinefeather\`"
+    make_archive quietly
+    made="made by \`rt lib\`"
 fi
 work=$(mktemp -d)
 trap 'rm -rf "$work"' EXIT

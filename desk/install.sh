@@ -15,13 +15,13 @@ trap 'rm -rf "$work"' EXIT
 
 need $cc $cc_packages
 echo "Proving and building what is not there yet: minutes, the first time .."
-prove check mark key
-archive_is_new || prove staticlib brinefeather
+make_programs prove
+make_archive prove
 for program in desk transcribe; do $cc $strict $link -o "$work/$program" desk/$program.c $archive; done
 sed "s|@PREFIX@|$prefix|" desk/brinefeather.pc.in > "$work/brinefeather.pc"
 
 install -d "$to"/{bin,include,lib/pkgconfig,share/man/man1,share/man/man3}
-install -m 755 target/bin/mark target/bin/key "$work/desk" "$work/transcribe" "$to/bin"
+install -m 755 $programs/mark $programs/key "$work/desk" "$work/transcribe" "$to/bin"
 install -m 644 desk/brinefeather.h "$to/include"
 install -m 644 $archive "$to/lib"
 install -m 644 "$work/brinefeather.pc" "$to/lib/pkgconfig"

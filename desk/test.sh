@@ -50,8 +50,8 @@ build() {
     need pkg-config pkg-config
     need groff groff-base
     beside transcribe desk/transcribe-test.sh
-    quietly rt staticlib brinefeather
-    quietly rt check mark key
+    make_archive quietly
+    make_programs quietly
     linked desk desk/desk.c
     linked transcribe desk/transcribe.c
 }
@@ -75,7 +75,7 @@ bytes() { printf '%b' "$(printf '%s' "$*" | tr -d ' ' | sed 's/../\\x&/g')"; }
 prints() {
     local said
     tries=$((tries + 1))
-    said=$($load "$root/target/bin/$1" 2>&1) || said="$said (status $?)"
+    said=$($load "$root/$programs/$1" 2>&1) || said="$said (status $?)"
     [ "$said" = "$2" ] || fail "$1, $3: '$said', and '$2' is right"
 }
 
@@ -276,7 +276,7 @@ by_hand() {
     sed -nE '/^## A paper by hand$/,/^## /s/^\| ([0-9]+) \| `([^`]*)` \|.*/\1: \2/p' "$root/README.md" > sheet.txt
     $run "$work/transcribe" paper paper.txt paper
     $run "$work/transcribe" sheet sheet.txt sheet
-    $load "$root/target/bin/key"
+    $load "$root/$programs/key"
     cmp key sheet || fail "the README's paper by hand: its answers are not its key"
     cd "$root"
     echo "README: a paper by hand, $(wc -l < "$work/by-hand/sheet.txt") answers, 0 wrong"

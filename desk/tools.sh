@@ -1,7 +1,8 @@
 # shellcheck shell=bash disable=SC2034 # to be sourced by bash, from the repository's root: who sources it uses the names
 # What the scripts share. The archive and the programs mark and key are for x86-64, whatever the machine is.
 #
-#   archive     where `rt staticlib brinefeather` puts it
+#   archive     where make_archive puts it
+#   programs    the folder where make_programs puts mark and key
 #   stand_in    how C that calls the archive's routines is compiled to call those of desk/plain.c in their place
 #   kit         the folder of the Rattle kit
 #   machine     x86_64, aarch64 ..
@@ -26,6 +27,7 @@ else
 fi
 strict="-std=c11 -O2 -Wall -Wextra -pedantic -Wconversion -Werror"
 archive=target/staticlib/libbrinefeather.a
+programs=target/bin
 stand_in="-Dbrinefeather_mark=plain_mark -Dbrinefeather_key=plain_key -Dbrinefeather_add_sequence=plain_add_sequence \
     -Dbrinefeather_add_event=plain_add_event"
 
@@ -57,14 +59,36 @@ quietly() {
     said=$("$@" 2>&1) || { tail -n 20 <<< "$said" >&2; return 1; }
 }
 
-# archive_is_new: the archive is there, and nothing that it is made of has changed since it was made.
-archive_is_new() {
-    [ -e $archive ] && [ -z "$(find crates crates.txt "$kit/KIT-ID" -newer $archive -print -quit)" ]
+# is_new FILE: it is there, and nothing that it is made of has changed since it was made.
+is_new() {
+    [ -e "$1" ] && [ ! crates.txt -nt "$1" ] && [ ! "$kit/KIT-ID" -nt "$1" ] \
+        && [ -z "$(find crates -mindepth 2 -name out -prune -o -newer "$1" -print -quit)" ]
 }
 
-# crate_count [NAME..]: how many crates of crates.txt these are, with all that they stand on; without a name, all.
+# rt_in FOLDER WORD..: runs rt there.
+rt_in() { (cd "$1" && rt "${@:2}"); }
+
+# make_archive HOW: proves and makes it, unless it is new. HOW is quietly or prove. rt names an archive by its crate.
+make_archive() {
+    is_new $archive && return
+    "$1" rt_in crates/brinefeather_c lib || return
+    install -D -m 644 crates/brinefeather_c/out/libbrinefeather_c.a $archive
+}
+
+# make_programs HOW: proves and makes mark and key, unless they are new, as after rt ci. rt also runs what it makes: there
+# is no paper in the folder of the crate, so it prints only that.
+make_programs() {
+    local name made
+    for name in mark key; do
+        made=crates/$name/out/$name
+        is_new "$made" || "$1" rt_in crates/$name run || return
+        install -D -m 755 "$made" $programs/$name || return
+    done
+}
+
+# crate_count FOLDER: how many crates of crates.txt the crate there is, with all that it stands on; of `.`, every crate.
 crate_count() {
-    awk -F: -v names="$*" '
+    awk -F: -v wanted="${1##*/}" '
     function visit(name, parts, n) {
         if (!(name in below) || name in visited) return
         visited[name]
@@ -72,19 +96,22 @@ crate_count() {
         for (n = split(below[name], parts, " "); n; n--) visit(parts[n])
     }
     { sub(/#.*/, "") }
-    NF { below[$1] = $2; all = all " " $1 }
-    END { for (n = split(names == "" ? all : names, wanted, " "); n; n--) visit(wanted[n]); print count + 0 }' crates.txt
+    NF { split($1, words, " "); below[words[1]] = $2; all = all " " words[1] }
+    END { for (n = split(wanted == "." ? all : wanted, names, " "); n; n--) visit(names[n]); print count + 0 }' crates.txt
 }
 
 # progress COUNT: of what rt says, shows each crate as it is proved, of so many, and every five seconds that it is still
-# at work. Of an archive rt says only that it is there.
+# at work. `rt all` names each crate that it is done with, and says no more of one that has not changed.
 progress() {
-    local line proved=0 begun=$SECONDS crate='^rt: ([a-z0-9_]+) proved (.*)' archive='^rt: (target/staticlib/[^ ]+) has '
+    local line name="" proved=0 begun=$SECONDS
     while true; do
         if IFS= read -r -t 5 line; then
-            [[ $line =~ $crate || $line =~ $archive ]] || continue
-            proved=$((proved + 1))
-            printf '%5d s  proved %d of %d: %s\n' $((SECONDS - begun)) $proved "$1" "${BASH_REMATCH[*]:1}"
+            case $line in
+            "== "*) tell_proved "$1" "unchanged"; name=${line#== }; name=${name/#summary/} ;;
+            "crate "*": modules "*) name=${line#crate }; name=${name%%:*} ;;
+            "logic=proved "*) tell_proved "$1" "$(cut -d " " -f 2 <<< "$line")" ;;
+            "logic="*) name="" ;;
+            esac
         elif [ $? -gt 128 ]; then
             printf '%5d s  ..\n' $((SECONDS - begun))
         else
@@ -93,11 +120,19 @@ progress() {
     done
 }
 
-# prove WORD..: runs rt with these words and shows its progress, and if it fails the end of what it said.
+# tell_proved COUNT WORD: for progress, whose names it uses; of no crate it tells nothing.
+tell_proved() {
+    [ "$name" ] || return 0
+    proved=$((proved + 1))
+    printf '%5d s  proved %d of %d: %s %s\n' $((SECONDS - begun)) "$proved" "$1" "$name" "$2"
+    name=""
+}
+
+# prove rt_in FOLDER WORD..: runs rt there and shows its progress, and if it fails the end of what it said.
 prove() {
     local log count
     log=$(mktemp)
-    count=$(crate_count "${@:2}")
-    (set -o pipefail; rt "$@" 2>&1 | tee "$log" | progress "$count") || { tail -n 20 "$log" >&2; rm "$log"; return 1; }
+    count=$(crate_count "$2")
+    (set -o pipefail; "$@" 2>&1 | tee "$log" | progress "$count") || { tail -n 20 "$log" >&2; rm "$log"; return 1; }
     rm "$log"
 }

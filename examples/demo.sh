@@ -29,7 +29,7 @@ ask() {
 
 build() {
     echo "Proving the rules and the code and building the programs: minutes the first time, seconds after that .."
-    (cd "$root" && prove check)
+    (cd "$root" && prove rt_in . all check && make_programs prove)
     echo "Proved."
 }
 
@@ -42,7 +42,7 @@ build_reader() {
 
 build_transcribe() {
     need $cc $cc_packages
-    (cd "$root" && { archive_is_new || prove staticlib brinefeather; })
+    (cd "$root" && make_archive prove)
     $cc $strict $link -o "$work/transcribe" "$root/desk/transcribe.c" "$root/$archive"
     transcriber="$run $work/transcribe"
 }
@@ -64,7 +64,7 @@ take_all_in() {
 }
 
 # program mark|key: runs it in the folder of its files.
-program() { (cd "$work" && $load "$root/target/bin/$1"); }
+program() { (cd "$work" && $load "$root/$programs/$1"); }
 
 # in_words LINE: what mark or key printed, and what a refusal means.
 in_words() {

@@ -9,7 +9,7 @@ cd "$(dirname "$0")/.."
 # shellcheck source=desk/tools.sh
 . desk/tools.sh
 need $cc $cc_packages
-programs=$(realpath "${PROGRAMS:-target/bin}")
+programs=$(realpath "${PROGRAMS:-$programs}")
 work=$(mktemp -d)
 trap 'rm -rf "$work"' EXIT
 $cc $strict $link -o "$work/transcriber" desk/transcribe.c $archive
