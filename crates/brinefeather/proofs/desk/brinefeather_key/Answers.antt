@@ -1,5 +1,4 @@
 -- `brinefeather::desk::brinefeather_key` meets its contract. Assumes nothing.
-use borrow.Author.Rules.{rules}
 use mathlib.Core.Path.{◌∙◌, ap}
 use Rattle.brinefeather.specs.Desk.{key_number}
 use Rattle.brinefeather.proofs.desk.brinefeather_key.Goals as goal

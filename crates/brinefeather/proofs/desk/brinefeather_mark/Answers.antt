@@ -1,5 +1,4 @@
 -- `brinefeather::desk::brinefeather_mark` meets its contract. Assumes nothing.
-use borrow.Author.Rules.{rules}
 use mathlib.Core.Path.{◌∙◌, ap}
 use Rattle.brinefeather.specs.Desk.{mark_number}
 use Rattle.brinefeather.proofs.desk.brinefeather_mark.Goals as goal

@@ -1,8 +1,7 @@
 -- `brinefeather::desk::mark_number` meets its contract. Assumes nothing.
-use borrow.Author.Rules.{rules}
 use mathlib.Core.Path.{sym, ap}
 use Rattle.brinefeather.specs.Desk.{mark_number}
 use Rattle.brinefeather.proofs.desk.mark_number.Goals as goal
 
 pub returns-in-Mark : goal.returns-in-Mark
-returns-in-Mark c = ap mark_number (sym c.m-in-Mark-1.is)
+returns-in-Mark c = ap mark_number (sym c.in-Mark.is)

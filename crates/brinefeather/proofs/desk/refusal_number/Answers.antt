@@ -1,9 +1,8 @@
 -- `brinefeather::desk::refusal_number` meets its contract. Assumes nothing.
-use borrow.Author.Rules.{rules}
 use Rattle.brinefeather.proofs.desk.refusal_number.Goals as goal
 
 pub returns-in-Badpaper : goal.returns-in-Badpaper
-returns-in-Badpaper c = rw (c.number_of-number.ensures, c.r-1.is)
+returns-in-Badpaper c = rw (c.number_of-number.ensures, c.in-Badpaper.is)
 
 pub returns-in-Badsheet : goal.returns-in-Badsheet
-returns-in-Badsheet c = rw (c.number_of-number.ensures, c.r-in-Badsheet-1.is)
+returns-in-Badsheet c = rw (c.number_of-number.ensures, c.in-Badsheet.is)

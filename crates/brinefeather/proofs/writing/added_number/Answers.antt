@@ -1,8 +1,7 @@
 -- `brinefeather::writing::added_number` meets its contract. Assumes nothing.
-use borrow.Author.Rules.{rules}
 use mathlib.Core.Path.{sym, ◌∙◌, ap}
 use Rattle.brinefeather.specs.Desk.{added_number}
 use Rattle.brinefeather.proofs.writing.added_number.Goals as goal
 
 pub returns-in-Taken : goal.returns-in-Taken
-returns-in-Taken c = c.writer_number.ensures ∙ ap added_number (sym c.a-1.is)
+returns-in-Taken c = c.writer_number.ensures ∙ ap added_number (sym c.in-Taken.is)

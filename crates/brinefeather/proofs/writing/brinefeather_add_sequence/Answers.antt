@@ -1,5 +1,4 @@
 -- `brinefeather::writing::brinefeather_add_sequence` meets its contract. Assumes nothing.
-use borrow.Author.Rules.{rules}
 use mathlib.Core.Path.{◌∙◌, ap}
 use Rattle.brinefeather.specs.Desk.{added_number}
 use Rattle.brinefeather.proofs.writing.brinefeather_add_sequence.Goals as goal
