@@ -1,6 +1,6 @@
 -- Demands 1 and 2, of the code; demand 3 is in crate rules. In this file quotation marks stand around the demands' own words. Assumes nothing.
 use Rattle.std.specs.Prelude.{ℕ, ◌+◌, ◌-◌, ◌*◌, ◌≤◌, ◌≡◌, true, ◌↔◌, List, [], ◌∷◌, ◌++◌, map, length, take, drop, replicate}
-use Rattle.std.specs.Borrow.{Bor}
+use Rattle.std.specs.Borrow.{Bor, MutBor}
 use Rattle.rules.specs.State.{laid, fresh}
 use Rattle.rules.specs.Step.{step_of}
 use Rattle.rules.specs.Reply.{four_of}
@@ -77,31 +77,34 @@ StepAsks s e = step-promise.Pre tt (s, (e, tt))
 abbrev pub StepGives : State → Event → Stepped → Type 0
 StepGives s e r = step-promise.Post tt (s, (e, tt)) r (s, (e, tt))
 
--- bytes or numbers, lent from one place: the promises read these alone
+-- bytes or numbers, lent from one place, to be read or to be changed: the promises read these alone
 abbrev lent : List ℕ → Bor (List ℕ)
 lent x = record { ref_ptr = (0, 0); now = x }
 
+abbrev changed : List ℕ → MutBor (List ℕ)
+changed x = record { ref_ptr = (0, 0); ghost_name = 0; now = x }
+
 -- `begin` asks for this of an array of zeros, and gives m
 abbrev pub BeginAsks : Type 0
-BeginAsks = begin-promise.Pre (replicate NUMBERS 0, tt) (lent (replicate NUMBERS 0), tt)
+BeginAsks = begin-promise.Pre (replicate NUMBERS 0, tt) (changed (replicate NUMBERS 0), tt)
 
 abbrev pub BeginGives : List ℕ → Type 0
-BeginGives m = begin-promise.Post (replicate NUMBERS 0, tt) (lent (replicate NUMBERS 0), tt) tt (lent m, tt)
+BeginGives m = begin-promise.Post (replicate NUMBERS 0, tt) (changed (replicate NUMBERS 0), tt) tt (changed m, tt)
 
 -- `turn` asks for this of the answer's array, the arrays m and t and the event e, and gives the answer and the arrays after it
 abbrev pub TurnAsks : List ℕ → List ℕ → List ℕ → Event → Type 0
-TurnAsks out m t e = turn-promise.Pre (out, (m, (t, tt))) (lent out, (lent m, (lent t, (e, tt))))
+TurnAsks out m t e = turn-promise.Pre (out, (m, (t, tt))) (changed out, (changed m, (changed t, (e, tt))))
 
 abbrev pub TurnGives : List ℕ → List ℕ → List ℕ → Event → List ℕ → List ℕ → List ℕ → Type 0
 TurnGives out m t e answer after rows =
-    turn-promise.Post (out, (m, (t, tt))) (lent out, (lent m, (lent t, (e, tt)))) tt (lent answer, (lent after, (lent rows, (e, tt))))
+    turn-promise.Post (out, (m, (t, tt))) (changed out, (changed m, (changed t, (e, tt)))) tt (changed answer, (changed after, (changed rows, (e, tt))))
 
 -- `key` asks for this of the paper p and the buffer, and gives r, with `after` in the buffer then
 abbrev pub KeyAsks : List ℕ → List ℕ → Type 0
-KeyAsks p buffer = key-promise.Pre (p, (buffer, tt)) (lent p, (lent buffer, tt))
+KeyAsks p buffer = key-promise.Pre (p, (buffer, tt)) (lent p, (changed buffer, tt))
 
 abbrev pub KeyGives : List ℕ → List ℕ → Keyed → List ℕ → Type 0
-KeyGives p buffer r after = key-promise.Post (p, (buffer, tt)) (lent p, (lent buffer, tt)) r (lent p, (lent after, tt))
+KeyGives p buffer r after = key-promise.Post (p, (buffer, tt)) (lent p, (changed buffer, tt)) r (lent p, (changed after, tt))
 
 -- `mark` asks for this of the paper p and the sheet s, and gives r
 abbrev pub MarkAsks : List ℕ → List ℕ → Type 0
