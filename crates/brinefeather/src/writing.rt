@@ -2,7 +2,7 @@
 ghost use Rattle.std.specs.Prelude.{◌≡◌};
 ghost use Rattle.papers.specs.Bytes.{run};
 ghost use Rattle.papers.specs.Entries.{entry_at};
-ghost use Rattle.forms.specs.Adding.{added, event as Item·event, sequence as Item·sequence};
+ghost use Rattle.forms.specs.Adding.{added, event as event_item, sequence as sequence_item};
 ghost use Rattle.brinefeather.specs.Desk.{writer_of, writer_number, added_number};
 
 use forms::items::*;
@@ -38,14 +38,14 @@ fn added_number(a: Added) -> u64
 }
 
 pub fn brinefeather_add_sequence(writer: u64, paper: &mut [u8], sequence: &[u8]) -> u64
-    ensures { (result ≡ added_number (added (writer_of writer) paper.old (Item·sequence (run sequence.now 0 16))).0) × (paper.new ≡ (added (writer_of writer) paper.old (Item·sequence (run sequence.now 0 16))).1) }
+    ensures { (result ≡ added_number (added (writer_of writer) paper.old (sequence_item (run sequence.now 0 16))).0) × (paper.new ≡ (added (writer_of writer) paper.old (sequence_item (run sequence.now 0 16))).1) }
 {
     let s = sequence_of(sequence);
     added_number(add_sequence(writer_of(writer), paper, s))
 }
 
 pub fn brinefeather_add_event(writer: u64, paper: &mut [u8], event: &[u8]) -> u64
-    ensures { (result ≡ added_number (added (writer_of writer) paper.old (Item·event (entry_at event.now 0))).0) × (paper.new ≡ (added (writer_of writer) paper.old (Item·event (entry_at event.now 0))).1) }
+    ensures { (result ≡ added_number (added (writer_of writer) paper.old (event_item (entry_at event.now 0))).0) × (paper.new ≡ (added (writer_of writer) paper.old (event_item (entry_at event.now 0))).1) }
 {
     let e = entry_of(event);
     added_number(add_event(writer_of(writer), paper, e))

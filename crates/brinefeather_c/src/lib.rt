@@ -4,7 +4,7 @@
 ghost use Rattle.std.specs.Prelude.{◌≡◌};
 ghost use Rattle.papers.specs.Bytes.{run};
 ghost use Rattle.papers.specs.Entries.{entry_at};
-ghost use Rattle.forms.specs.Adding.{added, event as Item·event, sequence as Item·sequence};
+ghost use Rattle.forms.specs.Adding.{added, event as event_item, sequence as sequence_item};
 ghost use Rattle.marker.specs.Key.{keyed};
 ghost use Rattle.marker.specs.Mark.{marked};
 ghost use Rattle.brinefeather.specs.Desk.{mark_number, key_number, writer_of, added_number};
@@ -25,14 +25,14 @@ pub extern "C" fn brinefeather_key(paper: &[u8], key: &mut [u8]) -> u64
 
 #[unsafe(no_mangle)]
 pub extern "C" fn brinefeather_add_sequence(writer: u64, paper: &mut [u8], sequence: &[u8]) -> u64
-    ensures { (result ≡ added_number (added (writer_of writer) paper.old (Item·sequence (run sequence.now 0 16))).0) × (paper.new ≡ (added (writer_of writer) paper.old (Item·sequence (run sequence.now 0 16))).1) }
+    ensures { (result ≡ added_number (added (writer_of writer) paper.old (sequence_item (run sequence.now 0 16))).0) × (paper.new ≡ (added (writer_of writer) paper.old (sequence_item (run sequence.now 0 16))).1) }
 {
     brinefeather::brinefeather_add_sequence(writer, paper, sequence)
 }
 
 #[unsafe(no_mangle)]
 pub extern "C" fn brinefeather_add_event(writer: u64, paper: &mut [u8], event: &[u8]) -> u64
-    ensures { (result ≡ added_number (added (writer_of writer) paper.old (Item·event (entry_at event.now 0))).0) × (paper.new ≡ (added (writer_of writer) paper.old (Item·event (entry_at event.now 0))).1) }
+    ensures { (result ≡ added_number (added (writer_of writer) paper.old (event_item (entry_at event.now 0))).0) × (paper.new ≡ (added (writer_of writer) paper.old (event_item (entry_at event.now 0))).1) }
 {
     brinefeather::brinefeather_add_event(writer, paper, event)
 }

@@ -4,7 +4,7 @@ use mathlib.Core.List.{List, ◌∷◌, ◌++◌, map, append_assoc, append-nil}
 use Prim.Native.Nat.{ℕ, suc, ◌+◌, ◌-◌, ◌*◌, ◌≤◌, ◌<◌}
 use native.Mathlib.Omega.{arith}
 use lib.ListN.{length, take, drop, length-drop, length-append}
-use lib.Seq.{take_all, take_at, drop_at, length-take-le, take-length, drop-length, drop-drop}
+use lib.Seq.{take_all, take_at, drop_at, length-take-le, drop-length, drop-drop}
 use Rattle.rules.specs.Step.{step_of}
 use Rattle.rules.specs.Play.{answers_from}
 use Rattle.rules.specs.declared.state.State.{State}
@@ -42,10 +42,6 @@ sheet-one s n i h =
     rw (e, f)
 
 -- ---- buffers
-
--- what `bytes::copy` leaves, of a run of n bytes
-pub copied : (x y o : List ℕ) (n : ℕ) → length x ≡ n → y ≡ take (length x) x ++ drop (length x) o → y ≡ x ++ drop n o
-copied x y o n l e = rw (take-length x, l) at e
 
 -- the tail of a buffer from `at` on comes back with e at its start
 module _ (o e y : List ℕ) (at n : ℕ) (h : at + n ≤ length o) (l : length e ≡ n)

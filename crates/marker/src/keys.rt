@@ -1,7 +1,6 @@
 // The key of a paper, written into a lent buffer.
 ghost use Rattle.std.specs.Prelude.{◌≡◌, ◌++◌, map, ◌+◌, ◌*◌, ◌≤◌, length, drop};
-ghost use Rattle.rules.specs.State.{laid};
-ghost use Rattle.rules.specs.State.{fresh as State·fresh};
+ghost use Rattle.rules.specs.State.{laid, fresh};
 ghost use Rattle.rules.specs.Play.{answers_from};
 ghost use Rattle.papers.specs.Bytes.{joined};
 ghost use Rattle.papers.specs.Events.{events_from};
@@ -22,7 +21,7 @@ pub enum Keyed {
 // Puts the answers to the paper's first n events at the start of what is left of the key.
 fn put_answers(p: &[u8], n: u16, out: &mut [u8])
     requires { 16 * n ≤ length out.old }
-    ensures { out.new ≡ joined (map answer_bytes (answers_from (laid State·fresh) (events_from p.now 12 n))) ++ drop (16 * n) out.old }
+    ensures { out.new ≡ joined (map answer_bytes (answers_from (laid fresh) (events_from p.now 12 n))) ++ drop (16 * n) out.old }
 {
     let mut m = [0u32; NUMBERS];
     let mut t = [0u64; WORDS];
@@ -39,7 +38,7 @@ fn put_answers(p: &[u8], n: u16, out: &mut [u8])
 // Writes the header and the answers to the paper's first n events.
 fn put_key(p: &[u8], n: u16, out: &mut [u8])
     requires { 6 + 16 * n ≤ length out.old }
-    ensures { out.new ≡ sheet_header n ++ joined (map answer_bytes (answers_from (laid State·fresh) (events_from p.now 12 n))) ++ drop (6 + 16 * n) out.old }
+    ensures { out.new ≡ sheet_header n ++ joined (map answer_bytes (answers_from (laid fresh) (events_from p.now 12 n))) ++ drop (6 + 16 * n) out.old }
 {
     let head = header(n);
     out[..6].copy_from_slice(&head);

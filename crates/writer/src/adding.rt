@@ -1,7 +1,7 @@
 // The two calls of a writer, with their refusals in their order.
 ghost use Rattle.std.specs.Prelude.{◌≡◌};
 ghost use Rattle.forms.specs.Adding.{number_of, event, sequence, begins, is_broken, added};
-ghost use Rattle.writer.specs.Reading.{finds as Reading·finds};
+ghost use Rattle.writer.specs.Reading.{finds};
 
 use crate::laying::*;
 use forms::items::*;
@@ -22,7 +22,7 @@ pub fn number_of(r: Refusal) -> u8
 
 // Whether the reader found a sound paper with so many events; without any it is refused as blank.
 fn finds(read: Read, events: u16) -> bool
-    ensures { result ≡ Reading·finds read events }
+    ensures { result ≡ finds read events }
 {
     match read {
         Read::Count(n) => n == events,
