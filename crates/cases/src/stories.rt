@@ -1,6 +1,5 @@
 // Plays stories. Each line is written again, an event with what it was answered: a line that begins with a digit is an event, = is the fresh
 // state, ! changes the state by hand, ? looks at it, and anything else is a comment.
-ghost use Rattle.std.specs.Prelude.{◌≡◌, OnOk};
 ghost use Rattle.turns.specs.Turn.{Holds};
 
 use crate::hand::{peek, poke};

@@ -1,5 +1,4 @@
 -- `cases::reading::line_end` stays in the text. Assumes nothing.
-use borrow.Author.Rules.{rules}
 use Prim.Native.Nat.{◌-◌, ◌≤◌}
 use lib.ListN.{length}
 use Rattle.cases.proofs.reading.line_end.Given as goal

@@ -1,9 +1,6 @@
 -- `cases::reading::number` ends. Assumes nothing.
-use borrow.Author.Rules.{rules}
-use Prim.Native.Nat.{ℕ, ◌-◌, ◌≤◌, ◌<◌, ◌^◌, ◌*◌}
+use Prim.Native.Nat.{◌-◌, ◌<◌, ◌^◌}
 use lib.ListN.{length}
-use native.Mathlib.Nat.{mul-le-mul, le_of_lt}
-use native.Mathlib.Omega.{arith}
 use Rattle.cases.proofs.reading.number.Given as goal
 
 abbrev pub invariant-loop-i : goal.invariant-loop-i

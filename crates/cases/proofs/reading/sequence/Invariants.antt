@@ -1,5 +1,4 @@
 -- `cases::reading::sequence` ends. Assumes nothing.
-use borrow.Author.Rules.{rules}
 use Prim.Native.Nat.{◌-◌, ◌≤◌}
 use Rattle.cases.proofs.reading.sequence.Given as goal
 

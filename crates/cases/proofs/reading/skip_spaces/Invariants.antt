@@ -1,5 +1,4 @@
 -- `cases::reading::skip_spaces` ends. Assumes nothing.
-use borrow.Author.Rules.{rules}
 use Prim.Native.Nat.{◌-◌}
 use lib.ListN.{length}
 use Prim.{Unit}
