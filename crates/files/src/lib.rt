@@ -23,16 +23,22 @@ pub fn fill<R: Read>(input: &mut R, buf: &mut [u8]) -> io::Result<usize>
     Ok(done)
 }
 
-fn fill_from_file<F: Files>(rt: &F, path: &str, buf: &mut [u8]) -> io::Result<usize>
+// The library opens paths in UTF-8 alone: a file by another name cannot be read.
+fn fill_from_file<F: Files>(rt: &F, path: &[u8], buf: &mut [u8]) -> io::Result<usize>
     ensures { IfOk result (λ n. IsPrefixLen n buf.new) }
 {
-    let mut file = fs::open(rt, path)?;
-    fill(&mut file, buf)
+    match str::from_utf8(path) {
+        Ok(name) => {
+            let mut file = fs::open(rt, name)?;
+            fill(&mut file, buf)
+        }
+        Err(_) => Ok(0),
+    }
 }
 
 // Puts a file at the start of buf, and answers how many bytes of it are there: all of them, or buf's length where the file has as many or more.
 // "A file that cannot be read counts as empty": also one that cannot be read to its end.
-pub fn load<F: Files>(rt: &F, path: &str, buf: &mut [u8]) -> usize
+pub fn load<F: Files>(rt: &F, path: &[u8], buf: &mut [u8]) -> usize
     ensures { IsPrefixLen result buf.new }
 {
     match fill_from_file(rt, path, buf) {

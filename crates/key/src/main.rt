@@ -29,7 +29,7 @@ fn make_key(rt: &(impl Files + Print), paper: &[u8], space: &mut [u8]) -> io::Re
 fn main(rt: HostRuntime) -> io::Result<()> {
     // 65,536 bytes each: above the longest paper (21,036), so that a longer file stays too long, and above the longest key (16,006).
     let mut paper = [0u8; 65536];
-    let n = files::load(&rt, "paper", &mut paper);
+    let n = files::load(&rt, b"paper", &mut paper);
     let mut space = [0u8; 65536];
     make_key(&rt, &paper[..n], &mut space)
 }
