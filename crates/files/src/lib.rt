@@ -1,4 +1,4 @@
-// Files and standard input, as the programs read them.
+// Files and standard input, as the programs read them, and what they say of a failure.
 #![tactic(auto)]
 
 ghost use Rattle.std.specs.Prelude.{IfOk};
@@ -44,5 +44,12 @@ pub fn load<F: Files>(rt: &F, path: &[u8], buf: &mut [u8]) -> usize
     match fill_from_file(rt, path, buf) {
         Ok(n) => n,
         Err(_) => 0,
+    }
+}
+
+// Says on standard error what has failed, if something has: its name, a colon and the system's words.
+pub fn tell_failure(rt: &impl Eprint, name: &str, done: io::Result<()>) {
+    if let Err(e) = done {
+        let _ = eprintln!(rt; "{name}: {e}");
     }
 }
