@@ -1,6 +1,6 @@
 # Brinefeather. `make demo` shows what it does, `make test` proves and tests everything.
 SHELL := bash
-.PHONY: demo test edits install bench clean
+.PHONY: demo test edits archive install bench clean
 
 # Marks the sample sheets; PAPER=file and SHEET=file mark your own. Only what stands on make's command line counts: such
 # a name may be in the environment for something else.
@@ -14,6 +14,10 @@ test: edits
 # In a second: do the must-fail edits still fit the files that they edit?
 edits:
 	@.ci/edits.sh
+
+# target/staticlib/libbrinefeather.a, for C that is compiled here.
+archive:
+	@. desk/tools.sh; make_archive prove
 
 # Into PREFIX=/usr/local, below DESTDIR= if that is given.
 install:

@@ -1,7 +1,7 @@
 # shellcheck shell=bash disable=SC2034 # to be sourced by bash, from the repository's root: who sources it uses the names
 # What the scripts share. The archive and the programs mark and key are for x86-64, whatever the machine is.
 #
-#   archive     where make_archive puts it
+#   archive     the archive for C: where make_archive puts it
 #   programs    the folder where make_programs puts mark and key
 #   stand_in    how C that calls the archive's routines is compiled to call those of desk/plain.c in their place
 #   kit         the folder of the Rattle kit
