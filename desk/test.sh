@@ -428,7 +428,7 @@ installation() {
 
 # cited: the numbers of the decisions that "decision N" and "decisions N, M and K to L" cite, also across lines.
 cited() {
-    find README.md docs desk crates -type f -exec sed -E 's/^ *(\/\/|#|\*) *//' {} + | tr -s '\n ' ' ' \
+    find README.md docs desk crates -name out -prune -o -type f -exec sed -E 's/^ *(\/\/|#|\*) *//' {} + | tr -s '\n ' ' ' \
         | grep -aoiE 'decisions? [0-9]+((,| and|, and| to) [0-9]+)*' | tr -d , | awk '{
             for (i = 2; i <= NF; i++)
                 if ($i == "to") for (n = $(i - 1); n < $(i + 1); n++) print n
