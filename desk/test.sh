@@ -321,6 +321,7 @@ demo_refusals() {
 demo() {
     local folder line own="$work/my own.sheet" mark
     tries=0
+    rm -f $proved
     examples/demo.sh > "$work/demo" 2>&1 || { cat "$work/demo"; fail "make demo"; }
     demo_counts
     for folder in examples/*/; do

@@ -3,6 +3,7 @@
 #
 #   archive     the archive for C: where make_archive puts it
 #   programs    the folder where make_programs puts mark and key
+#   proved      a file that prove_all makes anew
 #   stand_in    how C that calls the archive's routines is compiled to call those of desk/plain.c in their place
 #   kit         the folder of the Rattle kit
 #   machine     x86_64, aarch64 ..
@@ -28,6 +29,7 @@ fi
 strict="-std=c11 -O2 -Wall -Wextra -pedantic -Wconversion -Werror"
 archive=target/staticlib/libbrinefeather.a
 programs=target/bin
+proved=target/proved
 stand_in="-Dbrinefeather_mark=plain_mark -Dbrinefeather_key=plain_key -Dbrinefeather_add_sequence=plain_add_sequence \
     -Dbrinefeather_add_event=plain_add_event"
 
@@ -67,6 +69,13 @@ is_new() {
 
 # rt_in FOLDER WORD..: runs rt there.
 rt_in() { (cd "$1" && rt "${@:2}"); }
+
+# prove_all: proves every crate, unless nothing has changed since it did.
+prove_all() {
+    is_new $proved && return
+    prove rt_in . all check || return
+    mkdir -p "${proved%/*}" && touch $proved
+}
 
 # make_archive HOW: proves and makes it, unless it is new. HOW is quietly or prove. rt names an archive by its crate.
 make_archive() {

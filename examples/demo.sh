@@ -29,7 +29,7 @@ ask() {
 
 build() {
     echo "Proving the rules and the code and building the programs: minutes the first time, seconds after that .."
-    (cd "$root" && prove rt_in . all check && make_programs prove)
+    (cd "$root" && prove_all && make_programs prove)
     echo "Proved."
 }
 
