@@ -73,8 +73,10 @@ rt_in() { (cd "$1" && rt "${@:2}"); }
 # prove_all: proves every crate, unless nothing has changed since it did.
 prove_all() {
     is_new $proved && return
+    mkdir -p "${proved%/*}"
+    touch $proved.begun
     prove rt_in . all check || return
-    mkdir -p "${proved%/*}" && touch $proved
+    mv $proved.begun $proved
 }
 
 # make_archive HOW: proves and makes it, unless it is new. HOW is quietly or prove. rt names an archive by its crate.
