@@ -4,9 +4,9 @@
  * papers, item by item.
  *
  * Link with libbrinefeather.a, for x86-64: -lbrinefeather, or by pkg-config brinefeather. (In the repository it is
- * target/staticlib/libbrinefeather.a, by `make archive`; `make install` installs it.) The four routines keep nothing between calls,
- * allocate nothing, and may be called from any thread with 8 KB of stack left (less than 5,000 bytes were measured, of
- * the two that mark and write keys).
+ * target/staticlib/libbrinefeather.a, by `make archive`; `make install` installs it.) The four routines keep nothing
+ * between calls, allocate nothing, and may be called from any thread with 8 KB of stack left (less than 5,000 bytes were
+ * measured, of the two that mark and write keys).
  * What the events mean and what is answered to them, document 01 says (01-scope.md).
  *
  * A paper is 12 bytes of header, then its events, 20 bytes each, then its sequences, 16 bytes each, and nothing more.
