@@ -16,7 +16,8 @@ use Rattle.locks.specs.declared.rows.Row.{Row}
 use Rattle.locks.proofs.Lists.{all-at}
 use Rattle.locks.proofs.Tests.{and_split, cases}
 use Rattle.rules.specs.State.{Machine, no_process, laid, pids, process, view}
-use Rattle.rules.specs.Outcome.{Kind, kind_of, done, now_asleep, caller_ended, Outcome, Refusal, number_of, badstate, badcaller, asleep, trap, badcall, notmodelled, priv, noproc, nomemory, held, locked, deadlock, lcktable, notlocked, refusal, refused, answered, when, either}
+use Rattle.rules.specs.Outcome.{Kind, kind_of, done, now_asleep, caller_ended, Outcome, number_of, badstate, badcaller, asleep, trap, badcall, notmodelled, priv, noproc, nomemory, held, locked, deadlock, lcktable, notlocked, refusal, refused, answered, when, either}
+use Rattle.rules.specs.declared.outcome.Refusal.{Refusal}
 use Rattle.rules.specs.Sound.{ascend, sleep_fits, wake_fits, traps_fit, sound_process, sound}
 use Rattle.rules.specs.Step.{outcome, settled, step_of, woken_mask, ended_mask}
 use Rattle.rules.specs.declared.state.Answer.{Answer}

@@ -12,7 +12,8 @@ use Rattle.locks.specs.Lists.{mask}
 use Rattle.locks.proofs.Tests.{cases}
 use Rattle.rules.specs.State.{Machine, view}
 use Rattle.rules.specs.Sound.{sound}
-use Rattle.rules.specs.Outcome.{Refusal, badstate, badcaller, asleep, trap, badcall, notmodelled, priv, noproc, nomemory, held, locked, deadlock, lcktable, notlocked, number_of, refusal, Outcome, refused, answered, when, either}
+use Rattle.rules.specs.Outcome.{badstate, badcaller, asleep, trap, badcall, notmodelled, priv, noproc, nomemory, held, locked, deadlock, lcktable, notlocked, number_of, refusal, Outcome, refused, answered, when, either}
+use Rattle.rules.specs.declared.outcome.Refusal.{Refusal}
 use Rattle.rules.specs.Step.{woken_mask, ended_mask, outcome, settled, step_of}
 use Rattle.rules.specs.declared.state.State.{State}
 use Rattle.rules.specs.declared.state.Event.{Event}

@@ -5,7 +5,8 @@ use mathlib.Core.Bool.{Bool, true, false}
 use mathlib.Core.List.{List}
 use lib.ListN.{length, get_or, set}
 use Rattle.rules.specs.State.{Machine, no_process, put, sleeps}
-use Rattle.rules.specs.Outcome.{Kind, Outcome, Refusal, answered, either, kind_of, number_of, own, refused, when}
+use Rattle.rules.specs.Outcome.{Kind, Outcome, answered, either, kind_of, number_of, own, refused, when}
+use Rattle.rules.specs.declared.outcome.Refusal.{Refusal}
 use Rattle.rules.specs.Step.{woken_mask, ended_mask}
 use Rattle.rules.specs.declared.state.Process.{Process}
 use Rattle.rules.proofs.Frame.{Ok}

@@ -1,15 +1,18 @@
 -- What an event comes to in the arrays: the answer as four numbers, and the machine after it. Assumes nothing.
-use Rattle.std.specs.Prelude.{ℕ, ◌<◌, ◌≡◌, true, false, cond, List, length, get_or, set, take, drop}
+use Rattle.std.specs.declared.result.Result.{Result}
+use Rattle.std.specs.Prelude.{Ok, Err, ℕ, ◌<◌, ◌≡◌, true, false, cond, List, length, get_or, set, take, drop}
 use Rattle.locks.specs.Lists.{all}
 use Rattle.locks.specs.Words.{is_byte, value}
 use Rattle.rules.specs.State.{Machine, no_process}
 use Rattle.rules.specs.Outcome.{Outcome, refused, answered, when, either, refusal, kind_of}
+use Rattle.rules.specs.declared.outcome.Refusal.{Refusal}
 use Rattle.rules.specs.Step.{woken_mask, ended_mask}
 use Rattle.rules.specs.Reply.{four_of}
 use Rattle.rules.specs.declared.state.Process.{Process}
 use Rattle.rules.specs.declared.state.Event.{Event}
 use Rattle.rules.specs.declared.state.Answer.{Answer}
-use Rattle.places.specs.Places.{Procs, Lays}
+use Rattle.places.specs.Places.{Procs, Laid, Lays, Calls, caller, machine}
+use Rattle.places.specs.declared.arrays.Arrays.{Arrays}
 
 -- ---- answers
 
@@ -18,6 +21,11 @@ answer_of kind number d3 a0 = record { kind = kind; number = number; woken = 0; 
 
 abbrev pub masked : ℕ → ℕ → ℕ → Answer
 masked kind woken ended = record { kind = kind; number = 0; woken = woken; ended = ended; d3 = 0; a0 = 0 }
+
+-- what an event is answered: the four numbers, or those of its refusal
+abbrev pub told : Result (List ℕ) Refusal → List ℕ
+told (Ok out) = out
+told (Err r) = four_of (refusal r)
 
 -- ---- as `settled` of the rules, of machines
 
@@ -87,3 +95,28 @@ pub record Sequence (e : Event) (n low high : ℕ) : Type 0 where
 pub record Asked (n low high : ℕ) : Type 0 where
   pub event : Event
   pub asks : Sequence event n low high
+
+-- ---- both arrays as one value
+
+-- they are a machine laid out
+abbrev pub Whole : Arrays → Type 0
+Whole a = Laid a.numbers a.cells
+
+-- the machine that they show, and its process at place i
+abbrev pub shown : Arrays → Machine
+shown a = machine a.numbers a.cells
+
+abbrev pub asker : Arrays → ℕ → Process
+asker a i = caller a.numbers a.cells i
+
+-- they show a sound machine, whose process at place i is awake
+abbrev pub Asking : Arrays → ℕ → Type 0
+Asking a i = Calls a.numbers a.cells i
+
+-- they are s laid out
+abbrev pub Show : Arrays → Machine → Type 0
+Show a s = Lays a.numbers a.cells s
+
+-- they are what the outcome of s leaves, and r tells its answer
+abbrev pub Settles : Machine → Outcome Machine → Result (List ℕ) Refusal → Arrays → Type 0
+Settles s o r a = Settled s o (told r) a.numbers a.cells

@@ -1,5 +1,5 @@
 // The processes and the counts, in one array of numbers that is changed in place.
-ghost use Rattle.std.specs.Prelude.{◌≡◌, ◌+◌, ◌*◌, ◌<◌, ◌≤◌, get_or, set};
+ghost use Rattle.std.specs.Prelude.{◌≡◌, ◌+◌, ◌*◌, ◌<◌, get_or, set, MatchOption};
 ghost use Rattle.rules.specs.State.{pids};
 ghost use Rattle.places.specs.Places.{place_of};
 ghost use Rattle.places.specs.Places.{PLACE, PLACES, LIVE, Housed, procs_in, waked};
@@ -91,18 +91,15 @@ pub fn wake(m: &mut Numbers, i: usize, reason: u32, left: u32)
     m[i * PLACE + LEFT] = left;
 }
 
-// The place of the first process of that PID, or how many live.
-pub fn find(m: &Numbers, pid: u32) -> usize
+// The place of the first process of that PID.
+pub fn find(m: &Numbers, pid: u32) -> Option<usize>
     requires { Housed m.now }
-    ensures { (result ≤ get_or m.now LIVE 0) × (result ≡ place_of pid (pids (procs_in m.now))) }
+    ensures { MatchOption result (get_or m.now LIVE 0 ≡ place_of pid (pids (procs_in m.now))) (λ i. (i < get_or m.now LIVE 0) × (i ≡ place_of pid (pids (procs_in m.now)))) }
 {
-    let live = m[LIVE] as usize;
-    let mut i: usize = 0;
-    while i < live {
+    for i in 0..m[LIVE] as usize {
         if of(m, i, PID) == pid {
-            return i;
+            return Some(i);
         }
-        i += 1;
     }
-    i
+    None
 }
