@@ -24,8 +24,11 @@ use Rattle.places.proofs.Masking.{same-masks}
 use Rattle.locks.specs.Cells.{Rows}
 use Rattle.locks.specs.Pieces.{stores}
 use Rattle.places.specs.Places.{Calls, Laid, Lays, PLACE, ROWS, SECONDS, SLEEP, USED, caller, machine, numbers, whole}
-use Rattle.locking.specs.Queued.{Fills, held_or_full, waits_or_not}
-use Rattle.places.specs.Settled.{Settled, answer_of}
+use Rattle.locking.specs.Queued.{Fills, MayNot, held_or_full, waits_or_not}
+use Rattle.places.specs.Settled.{Settled, answer_of, told}
+use Rattle.std.specs.Prelude.{Err}
+use Rattle.rules.specs.declared.outcome.Refusal.{Refusal}
+use Rattle.locking.specs.Queued.MayNot.{dead, full}
 use Rattle.rules.specs.Reply.{four_of}
 use Rattle.places.proofs.Callings.{calls-here, calls-put, calls-quiet, machine-ok}
 use Rattle.places.proofs.Laying.{lays-rows, procs-set, procs-used}
@@ -75,22 +78,21 @@ leads-exact {b = false} rows r h = sym (off (leads_back rows r) (λ x. true≢fa
 back : {m t u : List ℕ} → Laid m t → Rows u (machine m t).rows → Lays m u (machine m t)
 back l a = record { procs = l.lays.procs; rows = a; used = l.lays.used }
 
+-- a refusal of the new row is that of the outcome
+pub queue-not : {m t u : List ℕ} {i : ℕ} → Calls m t i → (r : Row) {n : Refusal} → MayNot (machine m t).rows r n → Rows u (machine m t).rows → Settled (machine m t) (waits_or_not (caller m t i) r (machine m t)) (told (Err n)) m u
+queue-not c r (dead h) a = settled-when deadlock _ h (back c.laid a) refl
+queue-not c r (full h f) a = settled-past deadlock h (settled-when lcktable _ (eq-eqb _ ROWS f) (back c.laid a) refl)
+
 module _ {m t : List ℕ} {i used : ℕ} (c : Calls m t i) (e : used ≡ get_or m USED 0) (r : Row) {out u : List ℕ} where
-  pub queue-dead : leads_back (machine m t).rows r ≡ true → Rows u (machine m t).rows → out ≡ four_of (answer_of 3 12 0 0) → Settled (machine m t) (waits_or_not (caller m t i) r (machine m t)) out m u
-  queue-dead h a o = settled-when deadlock _ h (back c.laid a) o
-
   module _ (h : leads_back (machine m t).rows r ≡ false) where
-    pub queue-full : used ≡ ROWS → Rows u (machine m t).rows → out ≡ four_of (answer_of 3 13 0 0) → Settled (machine m t) (waits_or_not (caller m t i) r (machine m t)) out m u
-    queue-full f a o = settled-past deadlock h (settled-when lcktable _ (eq-eqb _ ROWS (sym (laid-rows c.laid e) ∙ f)) (back c.laid a) o)
-
-    pub queue-done : (used ≡ ROWS → ⊥) → Rows u ((machine m t).rows ++ r ∷ []) → {v w : List ℕ} → v ≡ set (set m USED (used + 1)) (i * PLACE + SLEEP) for_lock → w ≡ set v (i * PLACE + SECONDS) 0
+    pub queue-done : (length (machine m t).rows ≡ ROWS → ⊥) → Rows u ((machine m t).rows ++ r ∷ []) → {v w : List ℕ} → v ≡ set (set m USED (used + 1)) (i * PLACE + SLEEP) for_lock → w ≡ set v (i * PLACE + SECONDS) 0
         → out ≡ four_of (answer_of 1 0 0 0) → Settled (machine m t) (waits_or_not (caller m t i) r (machine m t)) out w u
     unfolding appended put
     queue-done d a j k o =
         let q = asleep_for for_lock 0 (caller m t i) in
-        let l = lays-asleep (lays-appended c.laid.lays r a (laid-rows c.laid e) (let b = c.laid.used in omega arith)) (calls-here c) in
+        let l = lays-asleep (lays-appended c.laid.lays r a (laid-rows c.laid e) (let b = c.laid.lays.used in omega (arith, laid-rows c.laid e))) (calls-here c) in
         settled-past deadlock h
-        (settled-past lcktable (ne_eqb _ ROWS (λ f. d (laid-rows c.laid e ∙ f)))
+        (settled-past lcktable (ne_eqb _ ROWS d)
         (settled-quiet now_asleep 0 0 (rw (k, j, calls-put c q refl) l) (calls-quiet c q refl (put q (appended r (machine m t))) (calls-put c q refl)) o))
 
 -- ---- how the request stands

@@ -104,11 +104,8 @@ module _ {e : Event} {n low high : ℕ} (a : Sequence e n low high) where
       go true = or-false (not (between 1 16 e.d3))
       go false = or-true (not (between 1 16 e.d3))
 
-  pub asks-short : n < 1 → bad_sequence e ≡ true
-  asks-short l = asks-bad ∙ rw (lt-leb 1 n l)
-
-  pub asks-long : 16 < n → bad_sequence e ≡ true
-  asks-long l = asks-bad ∙ rw (lt-leb n 16 l, and-false (leb 1 n))
+  pub asks-out : between 1 16 n ≡ false → bad_sequence e ≡ true
+  asks-out h = asks-bad ∙ rw h refl
 
   pub asks-good : 1 ≤ n → n ≤ 16 → bad_sequence e ≡ false
   asks-good l h = asks-bad ∙ rw (le-leb 1 n l, le-leb n 16 h)

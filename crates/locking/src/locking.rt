@@ -1,23 +1,26 @@
 // Lock and unlock. The caller is the process at place i.
-ghost use Rattle.std.specs.Prelude.{◌≡◌, true, false, List, ℕ, ◌≤◌, ◌<◌, ◌-◌, length, take, get_or};
-ghost use Rattle.locks.specs.Lists.{all};
+ghost use Rattle.std.specs.Prelude.{◌≡◌, true, false, [], ◌∷◌, ◌++◌, List, ℕ, ◌≤◌, ◌<◌, ◌-◌, length, take, get_or, MatchResult};
+ghost use Rattle.locks.specs.Lists.{all, between};
+ghost use Rattle.rules.specs.Outcome.{badcall};
 ghost use Rattle.locks.specs.Words.{is_byte, value};
+ghost use Rattle.locks.specs.Cells.{CELLS, Tells, Shows};
 ghost use Rattle.locks.specs.declared.rows.Row.{Row};
 ghost use Rattle.rules.specs.Calls.{bad_sequence, row_of, do_lock, do_unlock};
 ghost use Rattle.rules.specs.declared.state.Process.{Process};
 ghost use Rattle.rules.specs.declared.state.Event.{Event};
-ghost use Rattle.locks.specs.Cells.{Tells};
-ghost use Rattle.places.specs.Places.{USED, Laid, Calls, caller, machine};
-ghost use Rattle.places.specs.Settled.{Settled, Sequence, Asked};
+ghost use Rattle.places.specs.Places.{USED, Laid};
+ghost use Rattle.places.specs.Settled.{Asked, Asking, Sequence, Settles, asker, shown};
 ghost use Rattle.locking.specs.Granted.{Granted};
-ghost use Rattle.locking.specs.Queued.{Fills, held_or_full, waits_or_not};
+ghost use Rattle.locking.specs.Queued.{Fills, MayNot, MayWait, held_or_full, waits_or_not};
 
 use chains::leads_back;
 use locks::cells::*;
 use locks::rows::{Part, Standing};
-use numbers::refusals::*;
+use locks::words::Words;
 use places::answers::*;
+use places::arrays::Arrays;
 use places::fields::*;
+use rules::outcome::*;
 
 // A sequence has at most so many bytes.
 const LONGEST: u32 = 16;
@@ -27,20 +30,15 @@ pub fn grant(m: &mut Numbers, t: &Cells) -> u32
     requires { Laid m.old t.now }
     ensures { Granted m.old t.now m.new result }
 {
-    let live = m[LIVE] as usize;
     let used = m[USED] as usize;
     let mut woken: u32 = 0;
     let mut bit: u32 = 1;
-    let mut i: usize = 0;
-    while i < live {
-        if of(m, i, SLEEP) == FOR_LOCK {
-            if !is_waiting(t, used, of(m, i, PID) as u64) {
-                wake(m, i, BY_GRANT, 0);
-                woken += bit;
-            }
+    for i in 0..m[LIVE] as usize {
+        if of(m, i, SLEEP) == FOR_LOCK && !is_waiting(t, used, of(m, i, PID) as u64) {
+            wake(m, i, BY_GRANT, 0);
+            woken += bit;
         }
         bit *= 2;
-        i += 1;
     }
     woken
 }
@@ -52,115 +50,108 @@ fn first_bytes(w: u64, n: u32) -> u64
     if n < 8 { w % (1u64 << (n * 8)) } else { w }
 }
 
-// The row asked for: the first n of its sixteen bytes, and zeros.
-fn row_of(pid: u32, n: u32, low: u64, high: u64, shared: bool) -> Cell
+// The row asked for: the first n of the sixteen bytes, and zeros.
+fn row_of(pid: u32, n: u32, bytes: Words, shared: bool) -> Cell
     requires { n ≤ 16 }
-    ensures { (p : Process) (e : Event) → Sequence e n low high → p.pid ≡ pid → bad_sequence e ≡ false → Tells result (row_of p e shared) }
+    ensures { (p : Process) (e : Event) → Sequence e n bytes.low bytes.high → p.pid ≡ pid → bad_sequence e ≡ false → Tells result (row_of p e shared) }
 {
     Cell {
         owner: pid as u64,
         kind: if shared { n as u64 + SHARED } else { n as u64 },
-        low: first_bytes(low, n),
-        high: if n < 8 { 0 } else { first_bytes(high, n - 8) },
+        low: first_bytes(bytes.low, n),
+        high: if n < 8 {
+            0
+        } else {
+            first_bytes(bytes.high, n - 8)
+        },
     }
+}
+
+// The sequence has a length that a row can have.
+fn check_length(n: u32) -> Result<(), Refusal>
+    ensures { MatchResult result (λ _. (1 ≤ n) × (n ≤ 16)) (λ r. (r ≡ badcall) × (between 1 16 n ≡ false)) }
+{
+    if n < 1 || LONGEST < n {
+        return Err(Refusal::Badcall);
+    }
+    Ok(())
 }
 
 // The row comes last, behind `used` others.
-fn hold(out: &mut Reply, m: &mut Numbers, t: &mut Cells, used: usize, c: Cell)
-    requires { Fills m.old t.old used × (length out.old ≡ 4) }
-    ensures { (r : Row) → Tells c r → Settled (machine m.old t.old) (held_or_full r (machine m.old t.old)) out.new m.new t.new }
+fn hold(arrays: &mut Arrays, used: usize, c: Cell) -> Result<Reply, Refusal>
+    requires { Fills arrays.old.numbers arrays.old.cells used }
+    ensures { (r : Row) → Tells c r → Settles (shown arrays.old) (held_or_full r (shown arrays.old)) result arrays.new }
 {
     if used == ROWS {
-        refusal(out, LCKTABLE);
-        return;
+        return Err(Refusal::Lcktable);
     }
-    append(t, used, c);
-    m[USED] = (used + 1) as u32;
-    plain(out, DONE, 0, 0);
+    append(&mut arrays.cells, used, c);
+    arrays.numbers[USED] = (used + 1) as u32;
+    Ok(plain(AnswerKind::Done, 0, 0))
+}
+
+// The last row, which is new and waits, may do so: it closes no chain, and there is room for it.
+fn may_wait(t: &Cells, last: usize) -> Result<(), Refusal>
+    requires { last < CELLS }
+    ensures { (rows : List Row) (r : Row) → Shows t.now (rows ++ r ∷ []) → length rows ≡ last → MatchResult result (λ _. MayWait rows r) (MayNot rows r) }
+{
+    if leads_back(t, last) {
+        return Err(Refusal::Deadlock);
+    }
+    if last == ROWS {
+        return Err(Refusal::Lcktable);
+    }
+    Ok(())
 }
 
 // The row comes last and waits, unless that would be a deadlock or it has no room; its owner sleeps.
-fn queue(out: &mut Reply, m: &mut Numbers, t: &mut Cells, i: usize, used: usize, c: Cell)
-    requires { Calls m.old t.old i × (used ≡ get_or m.old USED 0) × (length out.old ≡ 4) }
-    ensures { (r : Row) → Tells c r → Settled (machine m.old t.old) (waits_or_not (caller m.old t.old i) r (machine m.old t.old)) out.new m.new t.new }
+fn queue(arrays: &mut Arrays, i: usize, used: usize, c: Cell) -> Result<Reply, Refusal>
+    requires { Asking arrays.old i × (used ≡ get_or arrays.old.numbers USED 0) }
+    ensures { (r : Row) → Tells c r → Settles (shown arrays.old) (waits_or_not (asker arrays.old i) r (shown arrays.old)) result arrays.new }
 {
-    append(t, used, c);
-    let mut number: u32 = 0;
-    if leads_back(t, used) {
-        number = DEADLOCK;
-    } else {
-        if used == ROWS {
-            number = LCKTABLE;
-        }
+    append(&mut arrays.cells, used, c);
+    if let Err(refusal) = may_wait(&arrays.cells, used) {
+        drop_last(&mut arrays.cells, used);
+        return Err(refusal);
     }
-    if number != 0 {
-        drop_last(t, used);
-        refusal(out, number);
-        return;
-    }
-    m[USED] = (used + 1) as u32;
-    set(m, i, SLEEP, FOR_LOCK);
-    set(m, i, SECONDS, 0);
-    plain(out, NOW_ASLEEP, 0, 0);
+    arrays.numbers[USED] = (used + 1) as u32;
+    set(&mut arrays.numbers, i, SLEEP, FOR_LOCK);
+    set(&mut arrays.numbers, i, SECONDS, 0);
+    Ok(plain(AnswerKind::NowAsleep, 0, 0))
 }
 
 // The sequence is the first n of sixteen bytes; n is 0 if none is named.
-pub fn lock(
-    out: &mut Reply,
-    m: &mut Numbers,
-    t: &mut Cells,
-    i: usize,
-    d2: u32,
-    n: u32,
-    low: u64,
-    high: u64,
-)
-    requires { Calls m.old t.old i × Asked n low high × (length out.old ≡ 4) }
-    ensures { (e : Event) → Sequence e n low high → e.d2 ≡ d2 → Settled (machine m.old t.old) (do_lock (caller m.old t.old i) e (machine m.old t.old)) out.new m.new t.new }
+pub fn lock(arrays: &mut Arrays, i: usize, d2: u32, n: u32, bytes: Words) -> Result<Reply, Refusal>
+    requires { Asking arrays.old i × Asked n bytes.low bytes.high }
+    ensures { (e : Event) → Sequence e n bytes.low bytes.high → e.d2 ≡ d2 → Settles (shown arrays.old) (do_lock (asker arrays.old i) e (shown arrays.old)) result arrays.new }
 {
-    if 3 < d2 || n < 1 || LONGEST < n {
-        refusal(out, BADCALL);
-        return;
+    if 3 < d2 {
+        return Err(Refusal::Badcall);
     }
-    let used = m[USED] as usize;
-    let c = row_of(of(m, i, PID), n, low, high, d2 == 0 || d2 == 2);
-    match stands(t, used, c) {
-        Standing::Held => refusal(out, HELD),
-        Standing::Free => hold(out, m, t, used, c),
-        Standing::Waits => {
-            if 2 <= d2 {
-                refusal(out, LOCKED)
-            } else {
-                queue(out, m, t, i, used, c)
-            }
-        }
+    check_length(n)?;
+    let used = arrays.numbers[USED] as usize;
+    let shared = d2 == 0 || d2 == 2;
+    let c = row_of(of(&arrays.numbers, i, PID), n, bytes, shared);
+    match stands(&arrays.cells, used, c) {
+        Standing::Held => Err(Refusal::Held),
+        Standing::Free => hold(arrays, used, c),
+        Standing::Waits if 2 <= d2 => Err(Refusal::Locked),
+        Standing::Waits => queue(arrays, i, used, c),
     }
 }
 
-pub fn unlock(
-    out: &mut Reply,
-    m: &mut Numbers,
-    t: &mut Cells,
-    i: usize,
-    n: u32,
-    low: u64,
-    high: u64,
-)
-    requires { Calls m.old t.old i × Asked n low high × (length out.old ≡ 4) }
-    ensures { (e : Event) → Sequence e n low high → Settled (machine m.old t.old) (do_unlock (caller m.old t.old i) e (machine m.old t.old)) out.new m.new t.new }
+pub fn unlock(arrays: &mut Arrays, i: usize, n: u32, bytes: Words) -> Result<Reply, Refusal>
+    requires { Asking arrays.old i × Asked n bytes.low bytes.high }
+    ensures { (e : Event) → Sequence e n bytes.low bytes.high → Settles (shown arrays.old) (do_unlock (asker arrays.old i) e (shown arrays.old)) result arrays.new }
 {
-    if n < 1 || LONGEST < n {
-        refusal(out, BADCALL);
-        return;
+    check_length(n)?;
+    let used = arrays.numbers[USED] as usize;
+    let c = row_of(of(&arrays.numbers, i, PID), n, bytes, false);
+    if !has_twin(&arrays.cells, used, c) {
+        return Err(Refusal::Notlocked);
     }
-    let used = m[USED] as usize;
-    let c = row_of(of(m, i, PID), n, low, high, false);
-    if !has_twin(t, used, c) {
-        refusal(out, NOTLOCKED);
-        return;
-    }
-    let left = take_out(t, used, c, Part::Twin);
-    m[USED] = left as u32;
-    let woken = grant(m, t);
-    with_masks(out, DONE, woken, 0);
+    let left = take_out(&mut arrays.cells, used, c, Part::Twin);
+    arrays.numbers[USED] = left as u32;
+    let woken = grant(&mut arrays.numbers, &arrays.cells);
+    Ok(with_masks(AnswerKind::Done, woken, 0))
 }

@@ -19,21 +19,23 @@ use Rattle.places.specs.Places.{Calls, PID, PLACE, USED, caller, machine}
 use Rattle.places.specs.Settled.{Sequence, Settled}
 use Rattle.places.proofs.Laying.{procs-used}
 use Rattle.locks.proofs.Telling.{rows-shows}
-use Rattle.locking.proofs.Sequences.{asks-good, asks-long, asks-short}
+use Rattle.locking.proofs.Sequences.{asks-good, asks-out}
 use Rattle.places.proofs.Callings.{caller-pid}
 use Rattle.locking.proofs.Lockings.{lock-bad, lock-free, lock-held, lock-locked, lock-on, lock-waits, shared-always, shared-conditional}
+use mathlib.Core.Path.{refl}
+use Rattle.std.proofs.lemmas.Result.{err_from_is_err_and}
 use Rattle.locking.proofs.locking.lock.Goals as goal
-use Rattle.locking.proofs.locking.lock.Goals.{then-d2-gt3-via-then-d2-gt3, then-d2-gt3-via-else-d2-gt3+then-n-lt1, then-d2-gt3-via-else-d2-gt3+else-n-lt1+then-n-gt-LONGEST, then-d2-eq0, else-d2-eq0}
+use Rattle.locking.proofs.locking.lock.Goals.{then-d2-eq0, else-d2-eq0}
 
 pub returns-then-d2-gt3 : goal.returns-then-d2-gt3
 returns-then-d2-gt3 c = λ e a q.
-    let bad : (ltb 3 e.d2 || bad_sequence e) ≡ true =
-    elim c.then-d2-gt3.branch [
-      | then-d2-gt3-via-then-d2-gt3 w ↦ or_left (ltb 3 e.d2) (bad_sequence e) (ap (ltb 3) q ∙ lt-ltb 3 _ w.if-d2-gt3.true)
-      | then-d2-gt3-via-else-d2-gt3+then-n-lt1 w ↦ or_right (ltb 3 e.d2) (bad_sequence e) (asks-short a w.if-n-lt1.true)
-      | then-d2-gt3-via-else-d2-gt3+else-n-lt1+then-n-gt-LONGEST w ↦ or_right (ltb 3 e.d2) (bad_sequence e) (asks-long a w.if-n-gt-LONGEST.true)
-    ] in
-    lock-bad (caller _ _ _) e bad c.requires.0.laid.lays c.refusal.ensures
+    lock-bad (caller _ _ _) e (or_left (ltb 3 e.d2) (bad_sequence e) (ap (ltb 3) q ∙ lt-ltb 3 _ c.if-d2-gt3.true)) c.requires.0.laid.lays refl
+
+pub returns-in_err-check_length : goal.returns-in_err-check_length
+returns-in_err-check_length c = λ e a q.
+    let p = err_from_is_err_and c.from_residual.result c.from_residual.ensures.1 in
+    let k = c.in_err-check_length.ensures in
+    rw (p.1, p.2, k.0) (lock-bad (caller _ _ _) e (or_right (ltb 3 e.d2) (bad_sequence e) (asks-out a k.1)) c.requires.0.laid.lays refl)
 
 -- the sequence is good: the rest goes by how the row stands
 asked : {m t : List ℕ} {i d2 n low high : ℕ} → Calls m t i → {e : Event} → Sequence e n low high → e.d2 ≡ d2 → d2 ≤ 3 → 1 ≤ n → n ≤ 16
@@ -51,16 +53,16 @@ asked {m} {t} {i} s {e} a q d l h g o k f y =
 
 pub returns-in-Held : goal.returns-in-Held
 returns-in-Held c = λ e a q.
-    asked c.requires.0 a q c.if-d2-gt3.false c.if-n-lt1.false c.if-n-gt-LONGEST.false (elim c.if-d2-eq0.branch [ then-d2-eq0 w ↦ shared-always e q w.if-d2-eq0.true w.row_of-is | else-d2-eq0 w ↦ shared-conditional e q w.if-d2-eq0.false w.row_of-is ]) c.of.ensures c.row_of-c.ensures c.stands.ensures (λ r y h. lock-held _ e r (sym c.in-Held.is ∙ h) c.requires.0.laid.lays c.refusal-in-Held.ensures)
+    asked c.requires.0 a q c.if-d2-gt3.false c.in_ok-check_length.ensures.0 c.in_ok-check_length.ensures.1 (elim c.if-d2-eq0.branch [ then-d2-eq0 w ↦ shared-always e q w.if-d2-eq0.true w.shared-is | else-d2-eq0 w ↦ shared-conditional e q w.if-d2-eq0.false w.shared-is ]) c.of.ensures c.row_of-c.ensures c.stands.ensures (λ r y h. lock-held _ e r (sym c.in-Held.is ∙ h) c.requires.0.laid.lays refl)
 
 pub returns-in-Free : goal.returns-in-Free
 returns-in-Free c = λ e a q.
-    asked c.requires.0 a q c.if-d2-gt3.false c.if-n-lt1.false c.if-n-gt-LONGEST.false (elim c.if-d2-eq0.branch [ then-d2-eq0 w ↦ shared-always e q w.if-d2-eq0.true w.row_of-is | else-d2-eq0 w ↦ shared-conditional e q w.if-d2-eq0.false w.row_of-is ]) c.of.ensures c.row_of-c.ensures c.stands.ensures (λ r y h. lock-free _ e r (sym c.in-Free.is ∙ h) (c.hold.ensures r y))
+    asked c.requires.0 a q c.if-d2-gt3.false c.in_ok-check_length.ensures.0 c.in_ok-check_length.ensures.1 (elim c.if-d2-eq0.branch [ then-d2-eq0 w ↦ shared-always e q w.if-d2-eq0.true w.shared-is | else-d2-eq0 w ↦ shared-conditional e q w.if-d2-eq0.false w.shared-is ]) c.of.ensures c.row_of-c.ensures c.stands.ensures (λ r y h. lock-free _ e r (sym c.in-Free.is ∙ h) (c.hold.ensures r y))
 
-pub returns-then-d2-ge2 : goal.returns-then-d2-ge2
-returns-then-d2-ge2 c = λ e a q.
-    asked c.requires.0 a q c.if-d2-gt3.false c.if-n-lt1.false c.if-n-gt-LONGEST.false (elim c.if-d2-eq0.branch [ then-d2-eq0 w ↦ shared-always e q w.if-d2-eq0.true w.row_of-is | else-d2-eq0 w ↦ shared-conditional e q w.if-d2-eq0.false w.row_of-is ]) c.of.ensures c.row_of-c.ensures c.stands.ensures (λ r y h. lock-locked _ e r (sym c.in-Waits.is ∙ h) (rw q c.if-d2-ge2.true) c.requires.0.laid.lays c.refusal-then-d2-ge2.ensures)
+pub returns-in-Waits : goal.returns-in-Waits
+returns-in-Waits c = λ e a q.
+    asked c.requires.0 a q c.if-d2-gt3.false c.in_ok-check_length.ensures.0 c.in_ok-check_length.ensures.1 (elim c.if-d2-eq0.branch [ then-d2-eq0 w ↦ shared-always e q w.if-d2-eq0.true w.shared-is | else-d2-eq0 w ↦ shared-conditional e q w.if-d2-eq0.false w.shared-is ]) c.of.ensures c.row_of-c.ensures c.stands.ensures (λ r y h. lock-locked _ e r (sym c.in-Waits.is ∙ h) (rw q c.if-d2-ge2.true) c.requires.0.laid.lays refl)
 
-pub returns-else-d2-ge2 : goal.returns-else-d2-ge2
-returns-else-d2-ge2 c = λ e a q.
-    asked c.requires.0 a q c.if-d2-gt3.false c.if-n-lt1.false c.if-n-gt-LONGEST.false (elim c.if-d2-eq0.branch [ then-d2-eq0 w ↦ shared-always e q w.if-d2-eq0.true w.row_of-is | else-d2-eq0 w ↦ shared-conditional e q w.if-d2-eq0.false w.row_of-is ]) c.of.ensures c.row_of-c.ensures c.stands.ensures (λ r y h. lock-waits _ e r (sym c.in-Waits.is ∙ h) (rw q c.if-d2-ge2.false) (c.queue.ensures r y))
+pub returns-in-Waits-2 : goal.returns-in-Waits-2
+returns-in-Waits-2 c = λ e a q.
+    asked c.requires.0 a q c.if-d2-gt3.false c.in_ok-check_length.ensures.0 c.in_ok-check_length.ensures.1 (elim c.if-d2-eq0.branch [ then-d2-eq0 w ↦ shared-always e q w.if-d2-eq0.true w.shared-is | else-d2-eq0 w ↦ shared-conditional e q w.if-d2-eq0.false w.shared-is ]) c.of.ensures c.row_of-c.ensures c.stands.ensures (λ r y h. lock-waits _ e r (sym c.in-Waits-2.is ∙ h) (rw q c.if-d2-ge2.false) (c.queue.ensures r y))

@@ -7,7 +7,7 @@ use native.Mathlib.Omega.{arith}
 use lib.ListN.{get_or}
 use Rattle.places.specs.Places.{Calls, PID, PLACE, caller}
 use Rattle.places.proofs.Laying.{procs-used}
-use Rattle.locking.proofs.Sequences.{asks-short, asks-long, asks-good}
+use Rattle.locking.proofs.Sequences.{asks-out, asks-good}
 use Rattle.locks.proofs.Telling.{rows-shows}
 use Rattle.places.proofs.Callings.{calls-ok, caller-pid}
 use Rattle.locking.proofs.Unlocks.{twin-gone, left_laid, left-granted, unlock-bad, unlock-none, unlock-done}
@@ -18,13 +18,14 @@ use Rattle.rules.specs.declared.state.Event.{Event}
 use Rattle.rules.specs.declared.state.Process.{Process}
 use Rattle.places.specs.Settled.{Sequence}
 use Rattle.locking.proofs.locking.unlock.Goals as goal
-use Rattle.locking.proofs.locking.unlock.Goals.{then-n-lt1-via-then-n-lt1, then-n-lt1-via-else-n-lt1+then-n-gt-LONGEST}
+use mathlib.Core.Path.{refl}
+use Rattle.std.proofs.lemmas.Result.{err_from_is_err_and}
 
-pub returns-then-n-lt1 : goal.returns-then-n-lt1
-returns-then-n-lt1 c = λ e a.
-    unlock-bad (caller _ _ _) e
-    (elim c.then-n-lt1.branch [ then-n-lt1-via-then-n-lt1 w ↦ asks-short a w.if-n-lt1.true | then-n-lt1-via-else-n-lt1+then-n-gt-LONGEST w ↦ asks-long a w.if-n-gt-LONGEST.true ]) c.requires.0.laid.lays
-    c.refusal.ensures
+pub returns-in_err-check_length : goal.returns-in_err-check_length
+returns-in_err-check_length c = λ e a.
+    let p = err_from_is_err_and c.from_residual.result c.from_residual.ensures.1 in
+    let k = c.in_err-check_length.ensures in
+    rw (p.1, p.2, k.0) (unlock-bad (caller _ _ _) e (asks-out a k.1) c.requires.0.laid.lays refl)
 
 -- the sequence is good, and the cell tells its row
 tells : {m t : List ℕ} {i n low high pid : ℕ} → Calls m t i → (e : Event) → Sequence e n low high → 1 ≤ n → n ≤ 16 → pid ≡ get_or m (i * PLACE + PID) 0
@@ -34,14 +35,14 @@ tells s e a l h o k = k _ e a (caller-pid s o) (asks-good a l h)
 pub returns-then-not-has_twin : goal.returns-then-not-has_twin
 returns-then-not-has_twin c = λ e a.
     let l = c.requires.0.laid.lays in
-    let y = tells c.requires.0 e a c.if-n-lt1.false c.if-n-gt-LONGEST.false c.of.ensures c.row_of-c.ensures in
+    let y = tells c.requires.0 e a c.in_ok-check_length.ensures.0 c.in_ok-check_length.ensures.1 c.of.ensures c.row_of-c.ensures in
     let twin = c.has_twin.ensures _ _ (rows-shows l.rows) (sym (procs-used l.procs)) y in
-    unlock-none _ e (asks-good a c.if-n-lt1.false c.if-n-gt-LONGEST.false) (sym twin ∙ c.if-not-has_twin.true) l c.refusal-then-not-has_twin.ensures
+    unlock-none _ e (asks-good a c.in_ok-check_length.ensures.0 c.in_ok-check_length.ensures.1) (sym twin ∙ c.if-not-has_twin.true) l refl
 
-pub overflow_cast-m : goal.overflow_cast-m
-overflow_cast-m c =
+pub overflow_cast-arrays : goal.overflow_cast-arrays
+overflow_cast-arrays c =
     let s = c.requires in
-    let y = tells s.0 s.1.event s.1.asks c.if-n-lt1.false c.if-n-gt-LONGEST.false c.of.ensures c.row_of-c.ensures in
+    let y = tells s.0 s.1.event s.1.asks c.in_ok-check_length.ensures.0 c.in_ok-check_length.ensures.1 c.of.ensures c.row_of-c.ensures in
     let g = twin-gone s.0.laid.lays y c.take_out-left.ensures in
     record { fits = omega (arith, g.few, g.count) }
 
@@ -49,14 +50,14 @@ pub grant-woken-requires : goal.grant-woken-requires
 grant-woken-requires c =
     let s = c.requires in
     let l = s.0.laid.lays in
-    let y = tells s.0 s.1.event s.1.asks c.if-n-lt1.false c.if-n-gt-LONGEST.false c.of.ensures c.row_of-c.ensures in
+    let y = tells s.0 s.1.event s.1.asks c.in_ok-check_length.ensures.0 c.in_ok-check_length.ensures.1 c.of.ensures c.row_of-c.ensures in
     let g = twin-gone l y c.take_out-left.ensures in
     left_laid _ l g.rows g.few g.count
 
 pub returns : goal.returns
 returns c = λ e a.
     let l = c.requires.0.laid.lays in
-    let y = tells c.requires.0 e a c.if-n-lt1.false c.if-n-gt-LONGEST.false c.of.ensures c.row_of-c.ensures in
+    let y = tells c.requires.0 e a c.in_ok-check_length.ensures.0 c.in_ok-check_length.ensures.1 c.of.ensures c.row_of-c.ensures in
     let twin = c.has_twin.ensures _ _ (rows-shows l.rows) (sym (procs-used l.procs)) y in
     let g = twin-gone l y c.take_out-left.ensures in
-    unlock-done _ e (asks-good a c.if-n-lt1.false c.if-n-gt-LONGEST.false) (calls-ok c.requires.0) (sym twin ∙ c.if-not-has_twin.false) (left-granted _ l g.rows g.few g.count c.grant-woken.ensures) c.with_masks.ensures
+    unlock-done _ e (asks-good a c.in_ok-check_length.ensures.0 c.in_ok-check_length.ensures.1) (calls-ok c.requires.0) (sym twin ∙ c.if-not-has_twin.false) (left-granted _ l g.rows g.few g.count c.grant-woken.ensures) c.with_masks.ensures
