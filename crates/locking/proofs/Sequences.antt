@@ -3,13 +3,13 @@ use Prim.Native.Nat.{ℕ, zero, suc, ◌+◌, ◌-◌, ◌*◌, ◌%◌, ◌^◌
 use native.Mathlib.Nat.{add-mul-mod_self_left, mod-eq_of_lt, mul-add, mul_assoc}
 use native.Mathlib.Omega.{arith}
 use mathlib.Core.Path.{◌≡◌, refl, sym, ap, ◌∙◌}
-use mathlib.Core.Bool.{Bool, true, false, cond, not, ◌&&◌, ◌||◌, or-false, or-true, and-false}
+use mathlib.Core.Bool.{Bool, true, false, cond, not, ◌&&◌, ◌||◌, or-false, or-true}
 use mathlib.Core.List.{List, [], ◌∷◌, ◌++◌}
 use lib.Dec.{eqb, leb}
 use lib.ListN.{length, take, drop, replicate, length-append, length-replicate, length-drop}
 use lib.Seq.{length-take-le, take-nil, drop_at}
 use lib.Pow.{pow-add, pow_mono, pow_pos}
-use borrow.Author.Tests.{ltb-true, eqb-true, le-leb, lt-leb, eq-eqb, leb-true, not-false}
+use borrow.Author.Tests.{ltb-true, eqb-true, le-leb, eq-eqb, leb-true, not-false}
 use Rattle.locks.specs.Lists.{padded, all, between, is_zero}
 use Rattle.locks.proofs.Tests.{and_split, and-join, or_off}
 use Rattle.locks.proofs.Lists.{all_append, all_replicate, all_drop}
