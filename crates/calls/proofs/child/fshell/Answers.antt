@@ -16,14 +16,14 @@ returns-then-d1-gt255 c =
     let d2 = c.args.d2 in
     let bad : (ltb 255 d1 || ltb 255 d2) ≡ true =
     elim c.then-d1-gt255.branch [ then-d1-gt255-via-then-d1-gt255 w ↦ rw (lt-ltb _ _ w.if-d1-gt255.true) | then-d1-gt255-via-else-d1-gt255+then-d2-gt255 w ↦ rw (le-ltb _ _ w.if-d1-gt255.false, lt-ltb _ _ w.if-d2-gt255.true) ] in
-    fshell-bad k e (rw (h1, h2) bad) c.refusal.ensures
+    fshell-bad k e (rw (h1, h2) bad)
 
 pub returns-then-live-eq-FULL : goal.returns-then-live-eq-FULL
 returns-then-live-eq-FULL c =
     λ e t h1 h2 k.
     let fits : (ltb 255 e.d1 || ltb 255 e.d2) ≡ false = rw (h1, h2, le-ltb _ _ c.if-d1-gt255.false, le-ltb _ _ c.if-d2-gt255.false) in
     let full : (eqb (get_or c.args.m.now LIVE 0) 16 || eqb (get_or c.args.m.now NEXT 0) 65536) ≡ true = elim c.then-live-eq-FULL.branch [ then-live-eq-FULL-via-then-live-eq-FULL w ↦ rw (eq-eqb _ 16 w.if-live-eq-FULL.true) | then-live-eq-FULL-via-else-live-eq-FULL+then-next-eq-LAST w ↦ rw (ne_eqb _ 16 w.if-live-eq-FULL.false, eq-eqb _ 65536 w.if-next-eq-LAST.true) ] in
-    fshell-full k e fits refl refl full c.refusal-then-live-eq-FULL.ensures
+    fshell-full k e fits refl refl full
 
 pub returns : goal.returns
 returns c =
