@@ -12,10 +12,11 @@ use places::answers::*;
 use places::fields::*;
 use rules::outcome::*;
 
-// All places are used; all PIDs are.
-const FULL: u32 = 16;
+// The next PID when all are used.
+const SPENT: u32 = 65536;
 
-const LAST: u32 = 65536;
+// Kill among the reactions.
+const KILL: usize = 2;
 
 fn bit_of(i: usize, n: u32) -> bool
     requires { i < 16 }
@@ -41,10 +42,8 @@ fn put_ids(m: &mut Numbers, j: usize, i: usize)
     requires { (i < j) × (j < PLACES) }
     ensures { m.new ≡ stores PLACE m.old j (run USER (id_in m.old i) 7) }
 {
-    for k in 0..7 {
-        let n = of(m, i, USER + k);
-        set(m, j, USER + k, n);
-    }
+    let ids = i * PLACE + USER;
+    m.copy_within(ids..ids + 7, j * PLACE + USER);
 }
 
 // The child's reactions; kill is always abort.
@@ -53,7 +52,7 @@ fn put_reactions(m: &mut Numbers, j: usize, i: usize, d1: u32, d2: u32)
     ensures { m.new ≡ stores PLACE m.old j (run REACTIONS (reaction_in d1 d2 m.old i) 7) }
 {
     for k in 0..7 {
-        let r = if k == 2 {
+        let r = if k == KILL {
             ABORT
         } else {
             child_reaction(d1, d2, k, of(m, i, REACTIONS + k))
@@ -70,16 +69,15 @@ pub fn fshell(m: &mut Numbers, i: usize, d1: u32, d2: u32) -> Result<Reply, Refu
     if 255 < d1 || 255 < d2 {
         return Err(Refusal::Badcall);
     }
-    let live = m[LIVE];
-    let next = m[NEXT];
-    if live == FULL || next == LAST {
+    let j = m[LIVE] as usize;
+    let pid = m[NEXT];
+    if j == PLACES || pid == SPENT {
         return Err(Refusal::Nomemory);
     }
-    m[LIVE] = live + 1;
-    m[NEXT] = next + 1;
-    let j = live as usize;
-    set(m, j, PID, next);
+    m[LIVE] += 1;
+    m[NEXT] = pid + 1;
+    set(m, j, PID, pid);
     put_ids(m, j, i);
     put_reactions(m, j, i, d1, d2);
-    Ok(plain(AnswerKind::Done, next, 0))
+    Ok(plain(AnswerKind::Done, pid, 0))
 }

@@ -106,7 +106,7 @@ fn set_prior(m: &mut Numbers, i: usize, d3: u32) -> Result<Reply, Refusal>
     Ok(plain(AnswerKind::Done, 0, 0))
 }
 
-// A process has no reaction to kill but the end.
+// Signal 3 is kill, which takes no reaction.
 fn bad_signal(d2: u32) -> bool
     ensures { result ≡ wrong_signal d2 }
 {

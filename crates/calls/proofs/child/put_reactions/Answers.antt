@@ -8,7 +8,7 @@ use Rattle.places.specs.Places.{PLACE, REACTIONS}
 use Rattle.calls.specs.Making.{reaction_in, run}
 use Rattle.calls.proofs.Making.{read-ahead, run_more}
 use Rattle.calls.proofs.child.put_reactions.Goals as goal
-use Rattle.calls.proofs.child.put_reactions.Goals.{then-k-eq2, else-k-eq2}
+use Rattle.calls.proofs.child.put_reactions.Goals.{then-k-eq-KILL, else-k-eq-KILL}
 
 pub loop-k-preserved : goal.loop-k-preserved
 loop-k-preserved c =
@@ -17,8 +17,8 @@ loop-k-preserved c =
     let k = c.loop-k.k in
     let g = reaction_in a.d1 a.d2 d a.i in
     let b : REACTIONS + k < PLACE = omega arith in
-    let r : c.if-k-eq2.r ≡ g k = elim c.if-k-eq2.branch [
-      | then-k-eq2 w ↦ rw (eq-eqb _ _ w.if-k-eq2.true) w.r-is
-      | else-k-eq2 w ↦ rw (ne_eqb _ _ w.if-k-eq2.false) (w.r-is ∙ w.child_reaction-r.ensures ∙ ap (child_reaction a.d1 a.d2 k) (w.of.ensures ∙ read-ahead d a.i a.j (run REACTIONS g k) (REACTIONS + k) c.loop-k.invariant c.requires.0 b))
+    let r : c.if-k-eq-KILL.r ≡ g k = elim c.if-k-eq-KILL.branch [
+      | then-k-eq-KILL w ↦ rw (eq-eqb _ _ w.if-k-eq-KILL.true) w.r-is
+      | else-k-eq-KILL w ↦ rw (ne_eqb _ _ w.if-k-eq-KILL.false) (w.r-is ∙ w.child_reaction-r.ensures ∙ ap (child_reaction a.d1 a.d2 k) (w.of.ensures ∙ read-ahead d a.i a.j (run REACTIONS g k) (REACTIONS + k) c.loop-k.invariant c.requires.0 b))
     ] in
     c.set.ensures ∙ run_more d REACTIONS g a.j k c.loop-k.invariant r
