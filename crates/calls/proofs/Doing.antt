@@ -2,17 +2,19 @@
 use Prim.Native.Nat.{ℕ, ◌+◌, ◌*◌, ◌<◌}
 use native.Mathlib.Omega.{arith}
 use mathlib.Core.Path.{◌≡◌, refl, sym, ap, ◌∙◌}
-use mathlib.Core.Bool.{true}
+use mathlib.Core.Bool.{Bool, true}
 use mathlib.Core.List.{List}
 use lib.Dec.{eqb}
 use lib.ListN.{length, get_or}
 use Rattle.rules.specs.State.{no_process, privileged}
-use Rattle.rules.specs.Outcome.{Outcome}
+use Rattle.rules.specs.Outcome.{Outcome, refusal}
+use Rattle.rules.specs.declared.outcome.Refusal.{Refusal}
+use Rattle.std.specs.Prelude.{Err}
 use Rattle.rules.specs.declared.state.Process.{Process}
 use Rattle.rules.specs.declared.state.Answer.{Answer}
 use Rattle.locks.specs.Pieces.{changes, stores, within}
 use Rattle.places.specs.Places.{PENDING, PID, PLACE, USER, Procs, Turns, numbers, whole}
-use Rattle.places.specs.Settled.{Does, own_answer, process_after}
+use Rattle.places.specs.Settled.{Does, own_answer, process_after, told}
 use Rattle.rules.specs.Reply.{four_of}
 use Rattle.places.proofs.Laying.{procs-get}
 use Rattle.places.proofs.Turning.{at-whole, turned, unturned}
@@ -39,10 +41,14 @@ module _ {m : List ℕ} {i : ℕ} where
       → ((p : Process) → Here m i p → (process_after p (o p) ≡ f p) × (own_answer (o p) ≡ a)) → Does o m i out after
   does a t e g = record { is = λ {ps} l h. let x = g (get_or ps i no_process) (here l h) in (rw x.0 (t.is l h), e ∙ ap four_of (sym x.1)) }
 
+  -- refused by each such process
+  pub refuses : {o : Process → Outcome Process} (r : Refusal) → ((p : Process) → Here m i p → (process_after p (o p) ≡ p) × (own_answer (o p) ≡ refusal r)) → Does o m i (told (Err r)) m
+  refuses r g = does (refusal r) still refl g
+
   -- the effective user id tells who is privileged
-  pub privileged-is : {p : Process} {x : ℕ} → Here m i p → x ≡ get_or m (i * PLACE + USER) 0 → privileged p ≡ eqb x 0
+  pub privileged-is : {p : Process} {b : Bool} → Here m i p → b ≡ eqb (get_or m (i * PLACE + USER) 0) 0 → privileged p ≡ b
   unfolding numbers
-  privileged-is l e = ap (λ n. eqb n 0) (sym (e ∙ l.get USER (omega arith)))
+  privileged-is l e = ap (λ n. eqb n 0) (sym (l.get USER (omega arith))) ∙ sym e
 
   pub pid-is : {p : Process} {x : ℕ} → Here m i p → x ≡ get_or m (i * PLACE + PID) 0 → x ≡ p.pid
   unfolding numbers

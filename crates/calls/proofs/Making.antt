@@ -1,11 +1,12 @@
 -- The child of fshell: numbers stored one after another in its place, and what they make. Assumes nothing.
-use Prim.Native.Nat.{ℕ, zero, suc, ◌+◌, ◌*◌, ◌<◌}
+use Prim.Native.Nat.{ℕ, zero, suc, ◌+◌, ◌*◌, ◌≤◌, ◌<◌}
 use native.Mathlib.Omega.{arith}
 use native.Mathlib.Numerals.{add-one}
 use mathlib.Core.Path.{◌≡◌, refl, sym, ap, ◌∙◌}
 use mathlib.Core.List.{List, [], ◌∷◌, ◌++◌}
-use lib.ListN.{get_or, set}
-use lib.Seq.{get_or-set_other}
+use lib.ListN.{length, get_or, set}
+use lib.Seq.{get_or-set_other, paste, paste-zero}
+use Rattle.std.proofs.lemmas.List.Edits.{paste_more}
 use Rattle.locks.specs.Pieces.{stores}
 use Rattle.places.specs.Places.{PLACE}
 use Rattle.calls.specs.Making.{run}
@@ -30,6 +31,18 @@ read-ahead d i j ss k e l b = ap (λ (x : List ℕ). get_or x (i * PLACE + k) 0)
 pub run_more : (d : List ℕ) (base : ℕ) (g : ℕ → ℕ) (j k : ℕ) {m : List ℕ} {v : ℕ} → m ≡ stores PLACE d j (run base g k) → v ≡ g k
     → set m (j * PLACE + (base + k)) v ≡ stores PLACE d j (run base g (k + 1))
 run_more d base g j k e f = rw (e, f, add-one k) (sym (stores-append PLACE d j (run base g k) ((base + k, g k) ∷ [])))
+
+-- a copy of n numbers
+pub run-paste : (d s : List ℕ) (base : ℕ) (g : ℕ → ℕ) (j n : ℕ) → j * PLACE + base + n ≤ length d → n ≤ length s → ((k : ℕ) → k < n → get_or s k 0 ≡ g k)
+    → paste d (j * PLACE + base) s n ≡ stores PLACE d j (run base g n)
+run-paste d s base g j zero l h f = sym (paste-zero d (j * PLACE + base) s)
+run-paste d s base g j (suc n) l h f =
+    let at = j * PLACE + base in
+    let m = paste d at s n in
+    let before : m ≡ stores PLACE d j (run base g n) = run-paste d s base g j n (omega arith) (omega arith) (λ k b. f k (omega arith)) in
+    let e : at + n ≡ j * PLACE + (base + n) = omega arith in
+    let after : paste d at s (n + 1) ≡ stores PLACE d j (run base g (n + 1)) = sym (paste_more d at s n 0 (omega arith) (omega arith)) ∙ ap (λ (x : ℕ). set m x (get_or s n 0)) e ∙ run_more d base g j n before (f n (omega arith)) in
+    rw (add-one n) at after
 
 pub run-same : (base : ℕ) (g h : ℕ → ℕ) (n : ℕ) → ((k : ℕ) → k < n → g k ≡ h k) → run base g n ≡ run base h n
 run-same base g h zero e = refl

@@ -5,13 +5,14 @@ use mathlib.Core.Path.{◌≡◌, refl, sym, ap, ◌∙◌}
 use mathlib.Core.Bool.{true, false, cond, ◌||◌}
 use mathlib.Core.List.{List, [], ◌∷◌, ◌++◌, append_assoc}
 use lib.Dec.{eqb, ltb}
+use Rattle.std.specs.Prelude.{Err}
 use lib.ListN.{length, get_or, set, replicate, length-append, get_or-append}
 use lib.Seq.{set_at, get_or_at}
 use borrow.Author.Tests.{ne_eqb}
 use Rattle.locks.specs.Lists.{padded}
 use Rattle.locks.proofs.Lists.{all_end}
 use Rattle.rules.specs.State.{abort, no_ids, no_process, new_process}
-use Rattle.rules.specs.Outcome.{done, badcall, nomemory, refusal}
+use Rattle.rules.specs.Outcome.{done, badcall, nomemory}
 use Rattle.rules.specs.Calls.{born, child, child_reaction, child_reactions, do_fshell}
 use Rattle.rules.specs.declared.state.Process.{Process}
 use Rattle.rules.specs.declared.state.Event.{Event}
@@ -19,7 +20,7 @@ use Rattle.places.proofs.Masking.{born-masks}
 use Rattle.calls.specs.Making.{id_in, reaction_in, run}
 use Rattle.locks.specs.Pieces.{changes, stores, within}
 use Rattle.places.specs.Places.{Calls, LIVE, NEXT, PID, PLACE, PLACES, Procs, REACTIONS, USER, caller, laid_procs, machine, numbers, whole}
-use Rattle.places.specs.Settled.{Settled, answer_of}
+use Rattle.places.specs.Settled.{Settled, answer_of, told}
 use Rattle.rules.specs.Reply.{four_of}
 use Rattle.places.proofs.Callings.{calls-here, calls-ok}
 use Rattle.places.proofs.Laying.{entire, procs-get, procs-live, procs-next, procs-set, seven-all, wide}
@@ -130,17 +131,17 @@ module _ {m t : List ℕ} {i x : ℕ} (c : Calls m t i) where
   next-is : x ≡ get_or m NEXT 0 → (machine m t).next ≡ x
   next-is b = sym (b ∙ procs-next c.laid.lays.procs)
 
-module _ {m t : List ℕ} {i : ℕ} (c : Calls m t i) (e : Event) {out : List ℕ} where
-  pub fshell-bad : (ltb 255 e.d1 || ltb 255 e.d2) ≡ true → out ≡ four_of (refusal badcall) → Settled (machine m t) (do_fshell (caller m t i) e (machine m t)) out m t
+module _ {m t : List ℕ} {i : ℕ} (c : Calls m t i) (e : Event) where
+  pub fshell-bad : (ltb 255 e.d1 || ltb 255 e.d2) ≡ true → Settled (machine m t) (do_fshell (caller m t i) e (machine m t)) (told (Err badcall)) m t
   unfolding do_fshell
-  fshell-bad h o = settled-when badcall _ h c.laid.lays o
+  fshell-bad h = settled-when badcall _ h c.laid.lays refl
 
   module _ {live next : ℕ} (h : (ltb 255 e.d1 || ltb 255 e.d2) ≡ false) (a : live ≡ get_or m LIVE 0) (b : next ≡ get_or m NEXT 0) where
-    pub fshell-full : (eqb live 16 || eqb next 65536) ≡ true → out ≡ four_of (refusal nomemory) → Settled (machine m t) (do_fshell (caller m t i) e (machine m t)) out m t
+    pub fshell-full : (eqb live 16 || eqb next 65536) ≡ true → Settled (machine m t) (do_fshell (caller m t i) e (machine m t)) (told (Err nomemory)) m t
     unfolding do_fshell
-    fshell-full f o = settled-past badcall h (settled-when nomemory _ (rw (live-is c a, next-is c b) f) c.laid.lays o)
+    fshell-full f = settled-past badcall h (settled-when nomemory _ (rw (live-is c a, next-is c b) f) c.laid.lays refl)
 
-    pub fshell-done : {u v w : List ℕ} → (live ≡ 16 → ⊥) → (next ≡ 65536 → ⊥) → u ≡ set (set (set m LIVE (live + 1)) NEXT (next + 1)) (live * PLACE + PID) next
+    pub fshell-done : {u v w out : List ℕ} → (live ≡ 16 → ⊥) → (next ≡ 65536 → ⊥) → u ≡ set (set (set m LIVE (live + 1)) NEXT (next + 1)) (live * PLACE + PID) next
         → v ≡ stores PLACE u live (run USER (id_in u i) 7) → w ≡ stores PLACE v live (run REACTIONS (reaction_in e.d1 e.d2 v i) 7) → out ≡ four_of (answer_of 0 0 next 0)
         → Settled (machine m t) (do_fshell (caller m t i) e (machine m t)) out w t
     unfolding do_fshell born

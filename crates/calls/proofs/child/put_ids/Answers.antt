@@ -1,31 +1,17 @@
 -- `calls::child::put_ids` meets its contract. Assumes nothing.
-use Prim.Native.Nat.{ℕ, ◌+◌, ◌<◌}
-use native.Mathlib.Omega.{arith}
-use mathlib.Core.Path.{◌≡◌, refl, ap, ◌∙◌}
-use Rattle.locks.specs.Pieces.{stores}
+use Rattle.std.proofs.Common.{ℕ, ◌≡◌, ◌+◌, ◌-◌, ◌*◌, ◌≤◌, ◌∙◌, ap, arith, drop, get_or, get_or-drop, length, length-drop}
+use lib.Seq.{paste}
 use Rattle.places.specs.Places.{PLACE, USER}
-use Rattle.calls.specs.Making.{id_in, run}
-use Rattle.calls.proofs.Making.{read-ahead, run_more}
+use Rattle.calls.specs.Making.{id_in}
+use Rattle.calls.proofs.Making.{run-paste}
 use Rattle.calls.proofs.child.put_ids.Goals as goal
-
-pub loop-k-init : goal.loop-k-init
-loop-k-init c = (omega arith, refl)
-
-pub loop-k-preserved : goal.loop-k-preserved
-loop-k-preserved c =
-    let a = c.args in
-    let d = a.m.now in
-    let k = c.loop-k.k in
-    let l : k < 7 = c.loop-k-test.true in
-    let b : USER + k < PLACE = omega arith in (
-      omega arith,
-      c.set.ensures ∙ run_more d USER (id_in d a.i) a.j k c.loop-k.invariant.1 (c.of-n.ensures ∙ read-ahead d a.i a.j (run USER (id_in d a.i) k) (USER + k) c.loop-k.invariant.1 c.requires.0 b),
-    )
 
 pub returns : goal.returns
 returns c =
-    let x = c.loop-k in
     let a = c.args in
     let d = a.m.now in
-    let e : x.k ≡ 7 = omega arith in
-    x.invariant.1 ∙ ap (λ (n : ℕ). stores PLACE d a.j (run USER (id_in d a.i) n)) e
+    let ids = a.i * PLACE + USER in
+    let seven : ids + 7 - ids ≡ 7 = omega arith in
+    let b : 7 ≤ length (drop ids d) = simp length-drop (omega arith) in
+    let read : (k : ℕ) → get_or (drop ids d) k 0 ≡ id_in d a.i k = λ k. get_or-drop ids d k 0 ∙ ap (λ (x : ℕ). get_or d x 0) (omega arith) in
+    c.copy_within.ensures.after ∙ ap (paste d (a.j * PLACE + USER) (drop ids d)) seven ∙ run-paste d (drop ids d) USER (id_in d a.i) a.j 7 (omega arith) b (λ k l. read k)

@@ -3,23 +3,10 @@ use Prim.Native.Nat.{ℕ}
 use native.Mathlib.Omega.{arith}
 use mathlib.Core.Path.{refl, sym, ap, ◌∙◌}
 use Rattle.rules.specs.Calls.{own_call}
-use Rattle.calls.specs.Own.{user, group}
 use Rattle.places.specs.Places.{PID, PRIORITY, numbers}
 use Rattle.places.specs.Settled.{answer_of}
 use Rattle.calls.proofs.Doing.{still, does}
 use Rattle.calls.proofs.own.own_call.Goals as goal
-
-pub get_id-requires : goal.get_id-requires
-get_id-requires c = (c.requires.0, user, c.requires.1)
-
-pub set_id-requires : goal.set_id-requires
-set_id-requires c = (c.requires.0, user, c.requires.1)
-
-pub get_id-requires-in-GetGroup : goal.get_id-requires-in-GetGroup
-get_id-requires-in-GetGroup c = (c.requires.0, group, c.requires.1)
-
-pub set_id-requires-in-SetGroup : goal.set_id-requires-in-SetGroup
-set_id-requires-in-SetGroup c = (c.requires.0, group, c.requires.1)
 
 pub returns-in-GetUser : goal.returns-in-GetUser
 unfolding own_call
