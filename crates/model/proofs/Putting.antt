@@ -1,5 +1,5 @@
 -- Processes and rows put into arrays of zeros, one after another. Assumes nothing.
-use Prim.Native.Nat.{ℕ, ◌+◌, ◌≤◌, ◌<◌}
+use Prim.Native.Nat.{ℕ, ◌+◌, ◌*◌, ◌≤◌, ◌<◌}
 use native.Mathlib.Omega.{arith}
 use native.Mathlib.Numerals.{add-one}
 use mathlib.Core.Path.{◌≡◌, refl, sym, ap, ◌∙◌}
@@ -20,7 +20,9 @@ use Rattle.rules.specs.State.{no_process, new_process}
 use Rattle.rules.specs.declared.state.Ids.{Ids}
 use Rattle.rules.specs.declared.state.Process.{Process}
 use Rattle.locks.specs.Cells.{Tells, whole_row, words}
-use Rattle.model.specs.Fields.{Slim, Unnumbered, fields}
+use Rattle.std.proofs.Math.Seq.{paste}
+use Rattle.std.proofs.lemmas.List.Edits.{paste_more, paste_none}
+use Rattle.model.specs.Fields.{Slim, Unnumbered, fields, seven_at}
 use Rattle.locks.specs.Pieces.{changes, joined, stores}
 use Rattle.places.specs.Places.{LIVE, NEXT, NUMBERS, PLACE, PLACES, Procs, USED, laid_procs, numbers, small_ids, whole}
 use Rattle.locks.proofs.Padding.{padded-length}
@@ -34,6 +36,29 @@ module _ {A : Type 0} (xs : List A) (i : ℕ) (d : A) {x : A} (l : i < length xs
 
   pub padded-next : (n : ℕ) (z : A) → i < n → set (padded n z (take i xs)) i x ≡ padded n z (take (i + 1) xs)
   padded-next n z b = rw take_more (padded-more n i z (take i xs) x (length-take-le i xs (omega arith)) b)
+
+-- ---- seven numbers copied into a place
+
+module _ (m xs : List ℕ) (i at : ℕ) (n : length xs ≡ 7) (b : i * PLACE + at + 7 ≤ length m) where
+  copied : ℕ → List ℕ
+  copied = paste m (i * PLACE + at) xs
+
+  one-more : (z : List ℕ) (j : ℕ) → j < 7 → z ≡ copied j → {k : ℕ} → k ≡ at + j → set z (i * PLACE + k) (get_or xs j 0) ≡ copied (j + 1)
+  unfolding copied
+  one-more z j l e {k} f =
+      let g : i * PLACE + k ≡ i * PLACE + at + j = omega arith in
+      rw (g, e) (paste_more m (i * PLACE + at) xs j 0 (omega arith) (omega arith))
+
+  pub seven-copied : paste m (i * PLACE + at) xs 7 ≡ stores PLACE m i (seven_at at xs)
+  unfolding copied
+  seven-copied =
+      sym (one-more _ 6 (omega arith)
+      (one-more _ 5 (omega arith)
+      (one-more _ 4 (omega arith)
+      (one-more _ 3 (omega arith)
+      (one-more _ 2 (omega arith)
+      (one-more _ 1 (omega arith)
+      (one-more m 0 (omega arith) (paste_none m (i * PLACE + at) xs) (omega arith)) refl) refl) refl) refl) refl) refl)
 
 -- ---- processes
 

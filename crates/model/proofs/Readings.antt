@@ -1,4 +1,8 @@
 -- A state read out of the arrays: each process and each row from its numbers, which fit. Assumes nothing.
+use Rattle.std.specs.Int.{to_le_bytes}
+use Rattle.std.proofs.Common.{w64}
+use Rattle.std.proofs.Math.Nat.{div-div-eq-div-mul}
+use Rattle.locks.specs.Words.{digits}
 use Prim.Native.Nat.{ℕ, zero, suc, ◌+◌, ◌*◌, ◌^◌, ◌≤◌, ◌<◌}
 use native.Mathlib.Nat.{le_of_suc-le-suc, not-suc-le-zero, suc-mul}
 use native.Mathlib.Omega.{arith}
@@ -16,8 +20,9 @@ use Rattle.locks.specs.declared.rows.Row.{Row}
 use Rattle.locks.proofs.Lists.{all-at}
 use Rattle.locks.proofs.Tests.{and_split, cases}
 use Rattle.rules.specs.State.{Machine, no_process, laid, pids, process, view}
-use Rattle.rules.specs.Outcome.{Kind, kind_of, done, now_asleep, caller_ended, Outcome, number_of, badstate, badcaller, asleep, trap, badcall, notmodelled, priv, noproc, nomemory, held, locked, deadlock, lcktable, notlocked, refusal, refused, answered, when, either}
+use Rattle.rules.specs.Outcome.{Kind, kind_of, done, now_asleep, caller_ended, Outcome, badstate, number_of, refusal, refused, answered, when, either}
 use Rattle.rules.specs.declared.outcome.Refusal.{Refusal}
+use Rattle.rules.specs.declared.outcome.Refusal.TheVariants.{Badstate, Badcaller, Asleep, Trap, Badcall, Notmodelled, Priv, Noproc, Nomemory, Held, Locked, Deadlock, Lcktable, Notlocked}
 use Rattle.rules.specs.Sound.{ascend, sleep_fits, wake_fits, traps_fit, sound_process, sound}
 use Rattle.rules.specs.Step.{outcome, settled, step_of, woken_mask, ended_mask}
 use Rattle.rules.specs.declared.state.Answer.{Answer}
@@ -48,6 +53,13 @@ parted-get g w (suc n) m zero d l = let e : 0 * w ≡ 0 = omega arith in rw e
 parted-get g w (suc n) m (suc i) d l =
     let e : suc i * w ≡ w + i * w = rw (suc-mul i w) (omega arith) in
     parted-get g w n (drop w m) i d (le_of_suc-le-suc l) ∙ ap g (drop-drop (i * w) w m ∙ ap (λ (k : ℕ). drop k m) (sym e))
+
+-- ---- the bytes of a number
+
+pub digits-bytes : (n : ℕ) → to_le_bytes w64 n ≡ digits 8 n
+digits-bytes n =
+    rw (div-div-eq-div-mul n 256 256, div-div-eq-div-mul n 65536 256, div-div-eq-div-mul n 16777216 256, div-div-eq-div-mul n 4294967296 256,
+    div-div-eq-div-mul n 1099511627776 256, div-div-eq-div-mul n 281474976710656 256)
 
 -- ---- one process, one row
 
@@ -163,20 +175,20 @@ module _ {m t : List ℕ} (h : Holds m t) where
 -- ---- a step
 
 number_small : (r : Refusal) → number_of r < 256
-number_small badstate = omega arith
-number_small badcaller = omega arith
-number_small asleep = omega arith
-number_small trap = omega arith
-number_small badcall = omega arith
-number_small notmodelled = omega arith
-number_small priv = omega arith
-number_small noproc = omega arith
-number_small nomemory = omega arith
-number_small held = omega arith
-number_small locked = omega arith
-number_small deadlock = omega arith
-number_small lcktable = omega arith
-number_small notlocked = omega arith
+number_small Badstate = omega arith
+number_small Badcaller = omega arith
+number_small Asleep = omega arith
+number_small Trap = omega arith
+number_small Badcall = omega arith
+number_small Notmodelled = omega arith
+number_small Priv = omega arith
+number_small Noproc = omega arith
+number_small Nomemory = omega arith
+number_small Held = omega arith
+number_small Locked = omega arith
+number_small Deadlock = omega arith
+number_small Lcktable = omega arith
+number_small Notlocked = omega arith
 
 mask-small : (f : Process → Bool) (ps : List Process) → length ps ≤ 16 → mask f ps < 65536
 mask-small f ps b = let q : 2 ^ length ps ≤ 65536 = pow_mono b in let l = mask_lt f ps in omega (arith, l, q)

@@ -14,6 +14,7 @@ ghost use Rattle.turns.specs.Turn.{Holds, state_in};
 use locks::cells::*;
 use locks::rows::{Row, Table};
 use places::answers::*;
+use places::arrays::Arrays;
 use places::fields::*;
 use rules::state::*;
 
@@ -32,14 +33,9 @@ fn seven_at(m: &Numbers, i: usize, at: usize) -> [u32; 7]
     requires { (i < PLACES) × (at + 6 < PLACE) }
     ensures { result ≡ numbers_at m.now i at }
 {
-    let mut xs = [0u32; 7];
-    xs[0] = m[i * PLACE + at];
-    xs[1] = m[i * PLACE + (at + 1)];
-    xs[2] = m[i * PLACE + (at + 2)];
-    xs[3] = m[i * PLACE + (at + 3)];
-    xs[4] = m[i * PLACE + (at + 4)];
-    xs[5] = m[i * PLACE + (at + 5)];
-    xs[6] = m[i * PLACE + (at + 6)];
+    let from = i * PLACE + at;
+    let mut xs = [0; 7];
+    xs.copy_from_slice(&m[from..from + 7]);
     xs
 }
 
@@ -59,65 +55,53 @@ fn process_at(m: &Numbers, i: usize) -> Process
     requires { (i < PLACES) × Narrow (process_at m.now i) }
     ensures { result ≡ process_at m.now i }
 {
-    let pid = of(m, i, PID) as u16;
-    let signals = Signals {
-        reactions: seven_at(m, i, REACTIONS),
-        pending: of(m, i, PENDING) as u8,
-        traps: seven_at(m, i, TRAPS),
-    };
     Process {
-        pid: pid,
+        pid: of(m, i, PID) as u16,
         user: three_at(m, i, USER),
         group: three_at(m, i, GROUP),
         priority: of(m, i, PRIORITY),
-        signals: signals,
+        signals: Signals {
+            reactions: seven_at(m, i, REACTIONS),
+            pending: of(m, i, PENDING) as u8,
+            traps: seven_at(m, i, TRAPS),
+        },
         alarm: of(m, i, ALARM),
         rest: rest_at(m, i),
     }
 }
 
-fn no_process() -> Process
-    ensures { result ≡ no_process }
-{
-    let ids = Ids {
-        effective: 0,
-        login: 0,
-        program: 0,
-    };
-    let signals = Signals {
-        reactions: [0u32; 7],
+const NO_IDS: Ids = Ids {
+    effective: 0,
+    login: 0,
+    program: 0,
+};
+
+const NO_PROCESS: Process = Process {
+    pid: 0,
+    user: NO_IDS,
+    group: NO_IDS,
+    priority: 0,
+    signals: Signals {
+        reactions: [0; 7],
         pending: 0,
-        traps: [0u32; 7],
-    };
-    let rest = Rest {
+        traps: [0; 7],
+    },
+    alarm: 0,
+    rest: Rest {
         sleep: 0,
         wake: 0,
         seconds: 0,
         left: 0,
-    };
-    Process {
-        pid: 0,
-        user: ids,
-        group: ids,
-        priority: 0,
-        signals: signals,
-        alarm: 0,
-        rest: rest,
-    }
-}
+    },
+};
 
 fn processes_in(m: &Numbers) -> [Process; 16]
     requires { (get_or m.now LIVE 0 ≤ PLACES) × ((i : ℕ) → i < get_or m.now LIVE 0 → Narrow (process_at m.now i)) }
     ensures { result ≡ padded PLACES no_process (procs_in m.now) }
 {
-    let live = m[LIVE] as usize;
-    let z = no_process();
-    let mut procs = [z; 16];
-    let mut i: usize = 0;
-    while i < live {
-        let p = process_at(m, i);
-        procs[i] = p;
-        i += 1;
+    let mut procs = [NO_PROCESS; 16];
+    for i in 0..m[LIVE] as usize {
+        procs[i] = process_at(m, i);
     }
     procs
 }
@@ -126,24 +110,10 @@ fn processes_in(m: &Numbers) -> [Process; 16]
 fn sixteen_bytes(low: u64, high: u64) -> [u8; 16]
     ensures { result ≡ digits 8 low ++ digits 8 high }
 {
-    [
-        (low % 256) as u8,
-        (low / 256 % 256) as u8,
-        (low / 256 / 256 % 256) as u8,
-        (low / 256 / 256 / 256 % 256) as u8,
-        (low / 256 / 256 / 256 / 256 % 256) as u8,
-        (low / 256 / 256 / 256 / 256 / 256 % 256) as u8,
-        (low / 256 / 256 / 256 / 256 / 256 / 256 % 256) as u8,
-        (low / 256 / 256 / 256 / 256 / 256 / 256 / 256 % 256) as u8,
-        (high % 256) as u8,
-        (high / 256 % 256) as u8,
-        (high / 256 / 256 % 256) as u8,
-        (high / 256 / 256 / 256 % 256) as u8,
-        (high / 256 / 256 / 256 / 256 % 256) as u8,
-        (high / 256 / 256 / 256 / 256 / 256 % 256) as u8,
-        (high / 256 / 256 / 256 / 256 / 256 / 256 % 256) as u8,
-        (high / 256 / 256 / 256 / 256 / 256 / 256 / 256 % 256) as u8,
-    ]
+    let mut bytes = [0; 16];
+    bytes[..8].copy_from_slice(&low.to_le_bytes());
+    bytes[8..].copy_from_slice(&high.to_le_bytes());
+    bytes
 }
 
 fn row_at(t: &Cells, i: usize) -> Row
@@ -151,57 +121,46 @@ fn row_at(t: &Cells, i: usize) -> Row
     ensures { result ≡ row_at t.now i }
 {
     let c = cell_at(t, i);
-    let bytes = sixteen_bytes(c.low, c.high);
     Row {
         owner: c.owner as u16,
         shared: SHARED <= c.kind,
         len: (c.kind % SHARED) as u8,
-        bytes: bytes,
+        bytes: sixteen_bytes(c.low, c.high),
     }
 }
 
-fn no_row() -> Row
-    ensures { result ≡ no_row }
-{
-    Row {
-        owner: 0,
-        shared: false,
-        len: 0,
-        bytes: [0u8; 16],
-    }
-}
+const NO_ROW: Row = Row {
+    owner: 0,
+    shared: false,
+    len: 0,
+    bytes: [0; 16],
+};
 
 fn rows_in(t: &Cells, used: usize) -> [Row; 32]
     requires { (used ≤ ROWS) × ((i : ℕ) → i < used → get_or t.now (i * CELL + OWNER) 0 < 65536) }
     ensures { result ≡ padded ROWS no_row (rows_in t.now used) }
 {
-    let z = no_row();
-    let mut rows = [z; 32];
-    let mut i: usize = 0;
-    while i < used {
-        let r = row_at(t, i);
-        rows[i] = r;
-        i += 1;
+    let mut rows = [NO_ROW; 32];
+    for i in 0..used {
+        rows[i] = row_at(t, i);
     }
     rows
 }
 
 // The state that the arrays hold.
-pub(crate) fn state_in(m: &Numbers, t: &Cells) -> State
-    requires { Holds m.now t.now }
-    ensures { result ≡ state_in m.now t.now }
+pub(crate) fn state_in(arrays: &Arrays) -> State
+    requires { Holds arrays.now.numbers arrays.now.cells }
+    ensures { result ≡ state_in arrays.now.numbers arrays.now.cells }
 {
+    let m = &arrays.numbers;
     let used = m[USED] as usize;
-    let procs = processes_in(m);
-    let rows = rows_in(t, used);
-    let table = Table {
-        rows: rows,
-        used: used,
-    };
     State {
-        procs: procs,
+        procs: processes_in(m),
         live: m[LIVE] as usize,
-        table: table,
+        table: Table {
+            rows: rows_in(&arrays.cells, used),
+            used,
+        },
         next: m[NEXT],
     }
 }

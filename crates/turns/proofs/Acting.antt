@@ -19,6 +19,10 @@ use Rattle.rules.specs.Step.{reported, of_caller, outcome}
 use Rattle.rules.specs.declared.state.Process.{Process}
 use Rattle.rules.specs.declared.state.Event.{Event}
 use Rattle.rules.specs.declared.calls.Class.{Class}
+use Rattle.turns.specs.Kinds.{IsKind}
+use Rattle.turns.specs.declared.kinds.Asked.{Asked}
+use Rattle.turns.specs.declared.kinds.Asked.TheVariants.{Call, Take, Report}
+use Rattle.turns.specs.declared.kinds.EventKind.TheVariants.{OfCaller}
 use Rattle.rules.proofs.Frame.{fit_next}
 use Rattle.rules.proofs.Sane.{sane}
 use Rattle.places.specs.Places.{Calls, Lays, NEXT, PENDING, PLACE, caller, machine, numbers}
@@ -30,8 +34,11 @@ use Rattle.places.proofs.Settling.{settled-first, settled-past, settled-second, 
 
 -- ---- the checks of an event, in their order
 
-pub kind-range : (k : ℕ) → 1 ≤ k → ltb 4 k ≡ false → between 1 4 k ≡ true
-kind-range k h m = rw (le-leb 1 k h, le-leb k 4 (ltb-false 4 k m))
+-- who asks something of its caller is none of the others
+pub of-caller : (n : ℕ) (a : Asked) → IsKind n (OfCaller a) → (between 1 4 n ≡ true) × (eqb n 2 ≡ false)
+of-caller n Call e = rw e (refl, refl)
+of-caller n Take e = rw e (refl, refl)
+of-caller n Report e = rw e (refl, refl)
 
 module _ {s : Machine} (e : Event) {out m t : List ℕ} where
   pub bad_kind : between 1 4 e.kind ≡ false → Lays m t s → out ≡ four_of (answer_of 3 5 0 0) → Settled s (outcome e s) out m t

@@ -57,29 +57,26 @@ pub holds-machine : {m t : List ℕ} → Holds m t → sound_machine (machine m 
 unfolding state_in sound
 holds-machine {m} {t} h = rw (view-laid (machine m t)) at (simp and-eq-true_iff at h.sound).1
 
--- ---- the place where the caller was found
+-- ---- no process of that PID, and the place of the one that there is
 
-module _ {m t : List ℕ} (h : Holds m t) (n : ℕ) {k : ℕ} (b : k ≤ get_or m LIVE 0) (f : k ≡ place_of n (pids (procs_in m))) where
-  at : k ≡ place_of n (pids (machine m t).procs)
-  at = found_at n h.laid.lays f
+module _ {m t : List ℕ} (h : Holds m t) (n : ℕ) where
+  pub not_live : get_or m LIVE 0 ≡ place_of n (pids (procs_in m)) → lives (machine m t) n ≡ false
+  not_live f = found_none (machine m t) n (found_at n h.laid.lays f) (procs-live h.laid.lays.procs)
 
-  pub not_live : k ≡ get_or m LIVE 0 → lives (machine m t) n ≡ false
-  not_live e = found_none (machine m t) n at (e ∙ procs-live h.laid.lays.procs)
+  module _ {k : ℕ} (b : k < get_or m LIVE 0) (f : k ≡ place_of n (pids (procs_in m))) where
+    at : k ≡ place_of n (pids (machine m t).procs)
+    at = found_at n h.laid.lays f
 
-  pub is-caller : caller m t k ≡ process_of (machine m t) n
-  is-caller = found-process (machine m t) n at
-
-  module _ (d : k ≡ get_or m LIVE 0 → ⊥) where
-    stands : k < get_or m LIVE 0
-    stands = omega (arith, d)
+    pub is-caller : caller m t k ≡ process_of (machine m t) n
+    is-caller = found-process (machine m t) n at
 
     pub is_live : lives (machine m t) n ≡ true
-    is_live = found-live (machine m t) n at (in-procs h.laid stands)
+    is_live = found-live (machine m t) n at (in-procs h.laid b)
 
     module _ {x : ℕ} (e : x ≡ get_or m (k * PLACE + SLEEP) 0) where
       sleep-is : (caller m t k).rest.sleep ≡ x
       unfolding numbers
-      sleep-is = sym (e ∙ procs-get h.laid.lays.procs k (in-procs h.laid stands) SLEEP (omega arith))
+      sleep-is = sym (e ∙ procs-get h.laid.lays.procs k (in-procs h.laid b) SLEEP (omega arith))
 
       pub is-asleep : (x ≡ 0 → ⊥) → sleeps (caller m t k) ≡ true
       is-asleep z = ap not (ne_eqb (caller m t k).rest.sleep 0 (λ g. z (sym sleep-is ∙ g)))
@@ -88,4 +85,4 @@ module _ {m t : List ℕ} (h : Holds m t) (n : ℕ) {k : ℕ} (b : k ≤ get_or 
       is-awake z = ap not (eq-eqb (caller m t k).rest.sleep 0 (sleep-is ∙ z))
 
       pub calls : x ≡ 0 → Calls m t k
-      calls z = record { laid = h.laid; sound = holds-machine h; stands = stands; awake = is-awake z }
+      calls z = record { laid = h.laid; sound = holds-machine h; stands = b; awake = is-awake z }

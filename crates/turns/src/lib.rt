@@ -1,6 +1,7 @@
 // One event, on arrays that hold the state and are changed in place.
 #![tactic(auto)]
 
+mod kinds;
 mod start;
 mod turns;
 

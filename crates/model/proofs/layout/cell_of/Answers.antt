@@ -4,7 +4,7 @@ use Rattle.model.proofs.Putting.{cell-tells}
 use Rattle.model.proofs.layout.cell_of.Goals as goal
 
 pub returns-then-r : goal.returns-then-r
-returns-then-r c = cell-tells c.args.r c.words_of-w.ensures (rw c.if-r.true)
+returns-then-r c = cell-tells c.args.r.now c.words_of-w.ensures (rw c.if-r.true)
 
 pub returns-else-r : goal.returns-else-r
-returns-else-r c = cell-tells c.args.r c.words_of-w.ensures (rw c.if-r.false (omega arith))
+returns-else-r c = cell-tells c.args.r.now c.words_of-w.ensures (rw c.if-r.false (omega arith))

@@ -1,6 +1,6 @@
 -- `model::readout::rows_in` meets its contract. Assumes nothing.
 use native.Mathlib.Omega.{arith}
-use mathlib.Core.Path.{ap, ◌∙◌}
+use mathlib.Core.Path.{refl, ap, ◌∙◌}
 use mathlib.Core.List.{List}
 use lib.ListN.{set}
 use lib.Seq.{take_all}
@@ -14,26 +14,8 @@ use Rattle.model.proofs.Readings.{row_here, rows-count}
 use Rattle.model.proofs.readout.rows_in.Goals as goal
 
 pub loop-i-init : goal.loop-i-init
-unfolding padded
-loop-i-init c = (omega arith, rw c.no_row-z.ensures)
-
-pub row_at-r-requires : goal.row_at-r-requires
-row_at-r-requires c =
-    let a = c.loop-i-test.true in
-    let b = c.requires in
-    (omega (arith, a, b.0), b.1 c.loop-i.i a)
-
-pub offset_bounds-rows-i : goal.offset_bounds-rows-i
-offset_bounds-rows-i c = omega (arith, c.loop-i-test.true, c.requires.0)
-
-pub bounds-rows-i : goal.bounds-rows-i
-bounds-rows-i c = omega (arith, c.loop-i-test.true, c.requires.0)
-
-pub overflow_add-i : goal.overflow_add-i
-overflow_add-i c = omega (arith, c.loop-i-test.true, c.requires.0)
-
-pub loop-i-smaller : goal.loop-i-smaller
-loop-i-smaller c = omega (arith, c.loop-i-test.true)
+unfolding padded no_row
+loop-i-init c = refl
 
 pub loop-i-preserved : goal.loop-i-preserved
 loop-i-preserved c =
@@ -43,7 +25,7 @@ loop-i-preserved c =
     let a = c.loop-i-test.true in
     let b = c.requires.0 in
     let n = rows-count t u in
-    (omega (arith, a), ap (λ (x : List Row). set x l.i c.row_at-r.result) l.invariant.1 ∙ padded-next (rows_in t u) l.i no_row (omega (arith, a, n)) (c.row_at-r.ensures ∙ row_here t l.i u a) ROWS no_row (omega (arith, a, b)))
+    (ap (λ (x : List Row). set x l.i c.row_at.result) l.invariant ∙ padded-next (rows_in t u) l.i no_row (omega (arith, a, n)) (c.row_at.ensures ∙ row_here t l.i u a) ROWS no_row (omega (arith, a, b)))
 
 pub returns : goal.returns
 returns c =
@@ -51,4 +33,4 @@ returns c =
     let u = c.args.used in
     let l = c.loop-i in
     let n = rows-count t u in
-    l.invariant.1 ∙ ap (padded ROWS no_row) (take_all l.i (rows_in t u) (omega (arith, n, c.loop-i-test.false)))
+    l.invariant ∙ ap (padded ROWS no_row) (take_all l.i (rows_in t u) (omega (arith, n, c.loop-i-test.false)))

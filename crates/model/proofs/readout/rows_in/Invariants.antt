@@ -1,7 +1,5 @@
--- `model::readout::rows_in` meets its contract. Assumes nothing.
-use Prim.Native.Nat.{◌-◌, ◌≤◌}
-use mathlib.Core.Path.{◌≡◌}
-use lib.ListN.{take}
+-- `model::readout::rows_in` meets its contract: the first i rows are read. Assumes nothing.
+use Rattle.std.proofs.Common.{◌≡◌, take}
 use Rattle.locks.specs.Lists.{padded}
 use Rattle.locks.specs.Rows.{no_row}
 use Rattle.locks.specs.Cells.{rows_in}
@@ -9,7 +7,4 @@ use Rattle.places.specs.Places.{ROWS}
 use Rattle.model.proofs.readout.rows_in.Given as goal
 
 abbrev pub invariant-loop-i : goal.invariant-loop-i
-invariant-loop-i l = (l.i ≤ l.used) × (l.rows ≡ padded ROWS no_row (take l.i (rows_in l.t l.used)))
-
-abbrev pub decreases-loop-i : goal.decreases-loop-i
-decreases-loop-i l = l.used - l.i
+invariant-loop-i l = l.rows ≡ padded ROWS no_row (take l.i (rows_in l.t l.used))
