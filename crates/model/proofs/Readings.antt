@@ -58,8 +58,14 @@ parted-get g w (suc n) m (suc i) d l =
 
 pub digits-bytes : (n : ℕ) → to_le_bytes w64 n ≡ digits 8 n
 digits-bytes n =
-    rw (div-div-eq-div-mul n 256 256, div-div-eq-div-mul n 65536 256, div-div-eq-div-mul n 16777216 256, div-div-eq-div-mul n 4294967296 256,
-    div-div-eq-div-mul n 1099511627776 256, div-div-eq-div-mul n 281474976710656 256)
+    rw (
+      div-div-eq-div-mul n 256 256,
+      div-div-eq-div-mul n 65536 256,
+      div-div-eq-div-mul n 16777216 256,
+      div-div-eq-div-mul n 4294967296 256,
+      div-div-eq-div-mul n 1099511627776 256,
+      div-div-eq-div-mul n 281474976710656 256,
+    )
 
 -- ---- one process, one row
 
@@ -202,7 +208,7 @@ kind-small done = omega arith
 kind-small now_asleep = omega arith
 kind-small caller_ended = omega arith
 
-refusal-small : (r : Refusal) → Small (refusal r)
+pub refusal-small : (r : Refusal) → Small (refusal r)
 refusal-small r = record { kind = omega arith; number = number_small r; woken = omega arith; ended = omega arith }
 
 -- an answer's fields fit
