@@ -1,5 +1,5 @@
 -- A mask that grows as a loop goes on. Assumes nothing.
-use Prim.Native.Nat.{ℕ, suc, ◌+◌, ◌*◌, ◌^◌, ◌≤◌, ◌<◌}
+use Prim.Native.Nat.{ℕ, ◌+◌, ◌*◌, ◌^◌, ◌≤◌, ◌<◌}
 use native.Mathlib.Nat.{pow-succ'}
 use native.Mathlib.Omega.{arith}
 use native.Mathlib.Numerals.{add-one}
@@ -10,15 +10,8 @@ use lib.ListN.{length, get_or, take}
 use lib.Seq.{take-suc, length-take-le}
 use lib.Pow.{pow_mono}
 use Rattle.locks.specs.Lists.{mask}
+use Rattle.rules.proofs.Numbers.{mask-small}
 use Rattle.rules.specs.declared.state.Process.{Process}
-
-pub mask_lt : (f : Process → Bool) (xs : List Process) → mask f xs < 2 ^ length xs
-mask_lt f [] = omega arith
-mask_lt f (x ∷ xs) = go (f x) (mask_lt f xs) (pow-succ' 2 (length xs))
-  where
-    go : (b : Bool) → mask f xs < 2 ^ length xs → 2 ^ suc (length xs) ≡ 2 * 2 ^ length xs → cond b 1 0 + 2 * mask f xs < 2 ^ suc (length xs)
-    go true h e = rw e (omega arith)
-    go false h e = rw e (omega arith)
 
 mask-last : (f : Process → Bool) (xs : List Process) (p : Process) → mask f (xs ++ p ∷ []) ≡ mask f xs + cond (f p) (2 ^ length xs) 0
 mask-last f [] p = go (f p)
@@ -55,7 +48,5 @@ module _ {f : Process → Bool} {ps : List Process} {w bit i : ℕ} (m : Marked 
 
   pub mark-small : i ≤ 16 → i ≤ length ps → w < 65536
   mark-small h l =
-      let k = mask_lt f (take i ps) in
       let e : length (take i ps) ≡ i = length-take-le i ps l in
-      let q : 2 ^ length (take i ps) ≤ 65536 = rw e (pow_mono h) in
-      rw m.is (omega arith)
+      rw m.is (mask-small f (take i ps) (omega arith))

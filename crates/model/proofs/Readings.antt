@@ -31,9 +31,9 @@ use Rattle.rules.specs.declared.state.Ids.{Ids}
 use Rattle.rules.specs.declared.state.Process.{Process}
 use Rattle.rules.specs.declared.state.State.{State}
 use Rattle.rules.specs.declared.state.Stepped.{Stepped}
+use Rattle.rules.proofs.Numbers.{mask-small, number-small}
 use Rattle.rules.proofs.Frame.{Ok, ascend-le, fit-ascend, fit_next}
 use Rattle.rules.proofs.Sane.{sane}
-use Rattle.locking.proofs.Marking.{mask_lt}
 use Rattle.locks.specs.Cells.{CELL, HIGH, KIND, LOW, OWNER, row_in, rows_in}
 use Rattle.model.specs.Fields.{Narrow, Slim, Small, number_at, process_at, row_at}
 use Rattle.locks.specs.Pieces.{parted}
@@ -180,25 +180,6 @@ module _ {m t : List ℕ} (h : Holds m t) where
 
 -- ---- a step
 
-number_small : (r : Refusal) → number_of r < 256
-number_small Badstate = omega arith
-number_small Badcaller = omega arith
-number_small Asleep = omega arith
-number_small Trap = omega arith
-number_small Badcall = omega arith
-number_small Notmodelled = omega arith
-number_small Priv = omega arith
-number_small Noproc = omega arith
-number_small Nomemory = omega arith
-number_small Held = omega arith
-number_small Locked = omega arith
-number_small Deadlock = omega arith
-number_small Lcktable = omega arith
-number_small Notlocked = omega arith
-
-mask-small : (f : Process → Bool) (ps : List Process) → length ps ≤ 16 → mask f ps < 65536
-mask-small f ps b = let q : 2 ^ length ps ≤ 65536 = pow_mono b in let l = mask_lt f ps in omega (arith, l, q)
-
 masks-small : (s u : Machine) → length s.procs ≤ 16 → (woken_mask s u < 65536) × (ended_mask s u < 65536)
 unfolding woken_mask ended_mask
 masks-small s u b = (mask-small _ s.procs b, mask-small _ s.procs b)
@@ -209,7 +190,7 @@ kind-small now_asleep = omega arith
 kind-small caller_ended = omega arith
 
 pub refusal-small : (r : Refusal) → Small (refusal r)
-refusal-small r = record { kind = omega arith; number = number_small r; woken = omega arith; ended = omega arith }
+refusal-small r = record { kind = omega arith; number = number-small r; woken = omega arith; ended = omega arith }
 
 -- an answer's fields fit
 answer-small : (s : Machine) → length s.procs ≤ 16 → (o : Outcome Machine) → Small (answer_to s o)

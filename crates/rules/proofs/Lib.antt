@@ -26,3 +26,4 @@ pub mod Pigeons
 pub mod Exact
 pub mod Fifteen
 pub mod Demands
+pub mod Numbers
