@@ -5,4 +5,4 @@ mod child;
 mod own;
 
 pub use crate::child::fshell;
-pub use crate::own::{own_call, report, take};
+pub use crate::own::{Registers, own_call, report, take};
