@@ -1,17 +1,18 @@
 -- Take: the lowest pending signal, and its trap handed out. Assumes nothing.
-use Prim.Native.Nat.{ℕ, zero, suc, ◌+◌, ◌-◌, ◌*◌, ◌/◌, ◌%◌, ◌^◌, ◌≤◌, ◌<◌}
-use native.Mathlib.Nat.{not-suc-le-zero, pow-succ', mod-eq_of_lt, one-mul}
+use Prim.Native.Nat.{ℕ, ◌+◌, ◌-◌, ◌*◌, ◌%◌, ◌^◌, ◌≤◌, ◌<◌}
 use native.Mathlib.Omega.{arith}
 use mathlib.Core.Path.{◌≡◌, refl, sym, ◌∙◌}
 use mathlib.Core.Bool.{true, false}
 use mathlib.Core.List.{List, [], ◌∷◌}
 use lib.Bits.{bit_xor}
-use lib.Count.{count_trailing_zeros, under}
+use lib.Count.{count_trailing_zeros}
 use lib.Dec.{eqb}
 use lib.ListN.{get_or, set, get_or-eq_default}
-use lib.Pow.{pow-lt}
 use lib.Seq.{set_out}
 use borrow.Author.Tests.{ne_eqb}
+use Rattle.std.specs.Int.{w8}
+use Rattle.std.proofs.lemmas.Nat.{one_shl}
+use Rattle.std.proofs.lemmas.Nat.Bits.{bit_at-trailing_zeros}
 use Rattle.rules.specs.State.{with_signals}
 use Rattle.rules.specs.Signals.{takes, taken}
 use Rattle.rules.specs.declared.state.Process.{Process}
@@ -22,25 +23,9 @@ use Rattle.places.proofs.Laying.{entire}
 use Rattle.places.proofs.Sevens.{address-get, turn-address}
 use Rattle.places.proofs.Turning.{then}
 
-pub zeros-below : (j k n : ℕ) → 0 < n → n < 2 ^ j → j ≤ k → count_trailing_zeros k n < j
-unfolding count_trailing_zeros
-zeros-below zero k n z l h = absurd (omega arith)
-zeros-below (suc j) zero n z l h = absurd (not-suc-le-zero h)
-zeros-below (suc j) (suc k) n z l h = go (n % 2) refl (zeros-below j k (n / 2))
-  where
-    go : (d : ℕ) → n % 2 ≡ d → (0 < n / 2 → n / 2 < 2 ^ j → j ≤ k → count_trailing_zeros k (n / 2) < j) → under d (count_trailing_zeros k (n / 2)) < suc j
-    go zero e ih =
-        let p : 2 ^ suc j ≡ 2 * 2 ^ j = pow-succ' 2 j in
-        let a : 0 < n / 2 = omega arith in
-        let b : n / 2 < 2 ^ j = omega arith in
-        let c : j ≤ k = omega arith in
-        let r = ih a b c in
-        omega arith
-    go (suc d) e ih = omega arith
-
--- a bit of a byte
-bit-in-byte : (k : ℕ) → k < 8 → (1 * 2 ^ k) % 2 ^ 8 ≡ 2 ^ k
-bit-in-byte k l = rw (one-mul (2 ^ k)) (mod-eq_of_lt (pow-lt l))
+-- the signal is one of eight
+pub low : (x : ℕ) → (x ≡ 0 → ⊥) → x < 256 → count_trailing_zeros 8 x < 8
+low x n l = (bit_at-trailing_zeros w8 x (omega arith) l).0
 
 -- these traps pending, and the address of trap k is 0
 abbrev pub handing : ℕ → ℕ → Process → Process
@@ -79,4 +64,4 @@ handed p x a e z l f =
     let k = count_trailing_zeros 8 x in
     let t : eqb p.signals.pending 0 ≡ false = ne_eqb _ 0 (λ j. z (e ∙ j)) in
     let d : k + 1 - 1 ≡ k = omega arith in
-    rw (t, ← e, bit-in-byte k l, d, f) (refl, refl)
+    rw (t, ← e, one_shl k 8 l, d, f) (refl, refl)

@@ -2,13 +2,12 @@
 use Prim.Native.Nat.{ℕ, zero, suc, ◌+◌, ◌*◌, ◌≤◌, ◌<◌}
 use native.Mathlib.Omega.{arith}
 use mathlib.Core.Path.{◌≡◌, refl, sym, ap, ◌∙◌}
-use mathlib.Core.Bool.{Bool, true, false, cond, not, ◌&&◌, ◌||◌}
+use mathlib.Core.Bool.{true, false, cond, not, ◌&&◌}
 use mathlib.Core.List.{List, [], ◌∷◌}
-use lib.Dec.{eqb, ltb}
+use lib.Dec.{eqb}
 use lib.ListN.{get_or, set}
-use Rattle.std.proofs.lemmas.Bool.{eqb-false}
-use Rattle.std.proofs.Common.{ltb-true, ltb-false, eqb-true, lt-ltb, le-ltb, eq-eqb}
-use Rattle.locks.proofs.Tests.{and_split, and-join, and-off, or_off}
+use Rattle.std.proofs.lemmas.Bool.Decides.{nat_tests}
+use Rattle.std.proofs.Common.{lt-ltb, le-ltb}
 use Rattle.rules.specs.State.{with_user, with_group}
 use Rattle.rules.specs.Calls.{id_of, with_id, new_ids, get_id, set_id, bad_ids}
 use Rattle.rules.specs.declared.state.Event.{Event}
@@ -25,40 +24,21 @@ use Rattle.places.proofs.Sevens.{wholly}
 use Rattle.calls.proofs.Doing.{Here, still, does, turns, privileged-is}
 use Rattle.places.proofs.Turning.{turn_is}
 
--- ids of 16 bits, one by one
-record Small (i : Ids) : Type 0 where
-  effective : i.effective < 65536
-  login : i.login < 65536
-  program : i.program < 65536
-
-small : (i : Ids) → small_ids i ≡ true → Small i
-small i h =
-    let a = ltb i.effective 65536 in
-    let b = ltb i.login 65536 in
-    let s = and_split (a && b) (ltb i.program 65536) h in
-    let t = and_split a b s.0 in
-    record { effective = ltb-true _ 65536 t.0; login = ltb-true _ 65536 t.1; program = ltb-true _ 65536 s.1 }
-
-smallish : (i : Ids) → Small i → small_ids i ≡ true
-smallish i s = and-join _ _ (and-join _ _ (lt-ltb _ _ s.effective) (lt-ltb _ _ s.login)) (lt-ltb _ _ s.program)
-
 three : (P : ℕ → Type 0) → P 0 → P 1 → P 2 → (k : ℕ) → k ≤ 2 → P k
 three P a b c zero l = a
 three P a b c (suc zero) l = b
 three P a b c (suc (suc zero)) l = c
 three P a b c (suc (suc (suc k))) l = absurd (omega arith)
 
-module _ (i : Ids) (s : Small i) where
+-- ids of 16 bits
+module _ (i : Ids) (s : small_ids i ≡ true) where
   id-small : (k : ℕ) → k ≤ 2 → id_of k i < 65536
   unfolding id_of
-  id-small = three (λ k. id_of k i < 65536) s.effective s.login s.program
+  id-small k l = grind (arith, nat_tests)
 
-  with-small : (v : ℕ) → v < 65536 → (k : ℕ) → k ≤ 2 → Small (with_id k v i)
+  with-small : (v : ℕ) → v < 65536 → (k : ℕ) → k ≤ 2 → small_ids (with_id k v i) ≡ true
   unfolding with_id
-  with-small v h =
-      three (λ k. Small (with_id k v i)) (record { effective = h; login = s.login; program = s.program })
-      (record { effective = s.effective; login = h; program = s.program })
-      (record { effective = s.effective; login = s.login; program = h })
+  with-small v h k l = grind (arith, nat_tests)
 
 -- ---- the ids at their place
 
@@ -76,23 +56,19 @@ unfolding numbers with_id
 at-change User p v = three (λ k. set (numbers p) (USER + k) v ≡ numbers (with_user (with_id k v p.user) p)) refl refl refl
 at-change Group p v = three (λ k. set (numbers p) (GROUP + k) v ≡ numbers (with_group (with_id k v p.group) p)) refl refl refl
 
-at_small : (ids : IdKind) (p : Process) → whole p ≡ true → Small (ids_at ids p)
-at_small User p w = small p.user (entire p w).user
-at_small Group p w = small p.group (entire p w).group
+at_small : (ids : IdKind) (p : Process) → whole p ≡ true → small_ids (ids_at ids p) ≡ true
+at_small User p w = (entire p w).user
+at_small Group p w = (entire p w).group
 
-at-whole : (ids : IdKind) (p : Process) (i : Ids) → whole p ≡ true → Small i → whole (with_at ids i p) ≡ true
-at-whole User p i w s = let e = entire p w in wholly (with_user i p) (record { reactions = e.reactions; traps = e.traps; user = smallish i s; group = e.group })
-at-whole Group p i w s = let e = entire p w in wholly (with_group i p) (record { reactions = e.reactions; traps = e.traps; user = e.user; group = smallish i s })
+at-whole : (ids : IdKind) (p : Process) (i : Ids) → whole p ≡ true → small_ids i ≡ true → whole (with_at ids i p) ≡ true
+at-whole User p i w s = let e = entire p w in wholly (with_user i p) (record { reactions = e.reactions; traps = e.traps; user = s; group = e.group })
+at-whole Group p i w s = let e = entire p w in wholly (with_group i p) (record { reactions = e.reactions; traps = e.traps; user = e.user; group = s })
 
 -- ---- the calls
 
 -- what the test of the registers leaves
 ids-fit : (d1 d2 d3 : ℕ) → wrong_ids d1 d2 d3 ≡ false → (d1 ≤ 2) × (d2 ≤ 3) × (d2 ≡ 3 → d3 ≤ 65535)
-ids-fit d1 d2 d3 h =
-    let big = eqb d2 3 && ltb 65535 d3 in
-    let s = or_off (ltb 2 d1 || ltb 3 d2) big h in
-    let t = or_off (ltb 2 d1) (ltb 3 d2) s.0 in
-    (ltb-false 2 d1 t.0, ltb-false 3 d2 t.1, λ e. ltb-false 65535 d3 (and-off (eqb d2 3) (ltb 65535 d3) s.1 (eq-eqb d2 3 e)))
+ids-fit d1 d2 d3 h = (grind (arith, nat_tests), grind (arith, nat_tests), λ e. grind (arith, nat_tests))
 
 abbrev new_at : IdKind → Event → Process → Process
 new_at ids e p = with_at ids (new_ids (ids_at ids p) e) p
@@ -120,15 +96,9 @@ module _ {m : List ℕ} {i : ℕ} (ids : IdKind) where
         → (v ≡ cond (eqb e.d2 3) e.d3 (id_of e.d2 (ids_at ids p))) × (v < 65536)
     value-is h {p} l v r =
         let f = ids-fit e.d1 e.d2 e.d3 h in
-        go (eqb e.d2 3) refl f.2 r
-      where
-        go : (b : Bool) → eqb e.d2 3 ≡ b → (e.d2 ≡ 3 → e.d3 ≤ 65535) → v ≡ cond b e.d3 (get_or m (i * PLACE + field_at ids e.d2) 0) → (v ≡ cond b e.d3 (id_of e.d2 (ids_at ids p))) × (v < 65536)
-        go true t small q = (let low : e.d3 ≤ 65535 = small (eqb-true e.d2 3 t) in (q, omega arith))
-        go false t small q =
-            let d : e.d2 ≡ 3 → ⊥ = eqb-false e.d2 3 t in
-            let b : e.d2 ≤ 2 = omega (arith, (ids-fit e.d1 e.d2 e.d3 h).1) in
-            let w : v ≡ id_of e.d2 (ids_at ids p) = q ∙ id-is l e.d2 b in
-            (w, rw w (id-small (ids_at ids p) (at_small ids p l.whole) e.d2 b))
+        let own : e.d2 ≤ 2 → get_or m (i * PLACE + field_at ids e.d2) 0 ≡ id_of e.d2 (ids_at ids p) = id-is l e.d2 in
+        let low : e.d2 ≤ 2 → id_of e.d2 (ids_at ids p) < 65536 = id-small (ids_at ids p) (at_small ids p l.whole) e.d2 in
+        (grind (arith, nat_tests), grind (arith, nat_tests))
 
     -- id D1 becomes v, by one who may
     pub set-done : (v : ℕ) {out after : List ℕ} → bad_ids e ≡ false → (eqb e.d2 3 && not (eqb (get_or m (i * PLACE + USER) 0) 0)) ≡ false

@@ -1,11 +1,10 @@
 -- `calls::own::take` meets its contract. Assumes nothing.
-use Prim.Native.Nat.{ℕ, ◌+◌, ◌<◌, ◌%◌, ◌*◌, ◌^◌}
+use Prim.Native.Nat.{ℕ, ◌+◌, ◌%◌, ◌*◌, ◌^◌}
 use native.Mathlib.Omega.{arith}
-use mathlib.Core.Path.{◌≡◌, refl, sym, ap, ◌∙◌}
+use mathlib.Core.Path.{refl, sym, ap, ◌∙◌}
 use mathlib.Core.List.{List}
 use lib.Bits.{bit_xor}
 use lib.Count.{count_trailing_zeros}
-use lib.Dec.{lit≤}
 use lib.ListN.{set}
 use borrow.Author.Tests.{eq-eqb}
 use Rattle.rules.specs.Signals.{taken}
@@ -13,13 +12,9 @@ use Rattle.places.specs.Places.{PENDING, PLACE, TRAPS, Turns}
 use Rattle.places.specs.Settled.{answer_of}
 use Rattle.places.proofs.Turning.{turn_is}
 use Rattle.calls.proofs.Doing.{still, does, pending-is}
-use Rattle.calls.proofs.Handing.{zeros-below, handing, handed, handed-address, handed-none, turn-handed, turn-none}
+use Rattle.calls.proofs.Handing.{low, handing, handed, handed-address, handed-none, turn-handed, turn-none}
 use Rattle.calls.proofs.own.take.Goals as goal
 use Rattle.calls.proofs.own.take.Goals.{else-k-lt7, then-k-lt7}
-
--- the signal is one of eight
-low : (x : ℕ) → (x ≡ 0 → ⊥) → x < 256 → count_trailing_zeros 8 x < 8
-low x n b = zeros-below 8 8 _ (omega arith) (omega arith) (lit≤ tt)
 
 pub returns-then-pending-eq0 : goal.returns-then-pending-eq0
 unfolding taken
