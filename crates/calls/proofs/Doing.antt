@@ -46,9 +46,9 @@ module _ {m : List ℕ} {i : ℕ} where
   refuses r g = does (refusal r) still refl g
 
   -- the effective user id tells who is privileged
-  pub privileged-is : {p : Process} {b : Bool} → Here m i p → b ≡ eqb (get_or m (i * PLACE + USER) 0) 0 → privileged p ≡ b
+  pub privileged-is : {p : Process} {x : ℕ} → Here m i p → x ≡ get_or m (i * PLACE + USER) 0 → privileged p ≡ eqb x 0
   unfolding numbers
-  privileged-is l e = ap (λ n. eqb n 0) (sym (l.get USER (omega arith))) ∙ sym e
+  privileged-is l e = ap (λ n. eqb n 0) (sym (e ∙ l.get USER (omega arith)))
 
   pub pid-is : {p : Process} {x : ℕ} → Here m i p → x ≡ get_or m (i * PLACE + PID) 0 → x ≡ p.pid
   unfolding numbers

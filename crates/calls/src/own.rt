@@ -43,13 +43,6 @@ fn field(ids: IdKind, code: u32) -> usize
     ids as usize + code as usize
 }
 
-fn privileged(m: &Numbers, i: usize) -> bool
-    requires { i < PLACES }
-    ensures { result ≡ eqb (get_or m.now (i * PLACE + USER) 0) 0 }
-{
-    of(m, i, USER) == 0
-}
-
 fn get_id(m: &Numbers, i: usize, ids: IdKind, d2: u32) -> Result<Reply, Refusal>
     requires { i < PLACES }
     ensures { (e : Event) → e.d2 ≡ d2 → Does (λ p. get_id_at ids p e) m.now i (told result) m.now }
@@ -80,7 +73,7 @@ fn set_id(
     if bad_ids(d1, d2, d3) {
         return Err(Refusal::Badcall);
     }
-    if d2 == 3 && !privileged(m, i) {
+    if d2 == 3 && of(m, i, USER) != 0 {
         return Err(Refusal::Priv);
     }
     let id = if d2 == 3 {
@@ -99,7 +92,7 @@ fn set_prior(m: &mut Numbers, i: usize, d3: u32) -> Result<Reply, Refusal>
     if !in_priority(d3) {
         return Err(Refusal::Badcall);
     }
-    if NEGATIVE <= d3 && !privileged(m, i) {
+    if NEGATIVE <= d3 && of(m, i, USER) != 0 {
         return Err(Refusal::Priv);
     }
     set(m, i, PRIORITY, d3);

@@ -12,7 +12,7 @@ use Rattle.calls.specs.Own.{field_at}
 use Rattle.calls.proofs.Doing.{refuses, privileged-is}
 use Rattle.calls.proofs.Ids.{set-done}
 use Rattle.calls.proofs.own.set_id.Goals as goal
-use Rattle.calls.proofs.own.set_id.Goals.{then-d2-eq3-2, else-d2-eq3-2, else-d2-eq3-via-then-d2-eq3+else-not-privileged, else-d2-eq3-via-else-d2-eq3}
+use Rattle.calls.proofs.own.set_id.Goals.{then-d2-eq3-2, else-d2-eq3-2, else-d2-eq3-via-then-d2-eq3+else-of-ne0, else-d2-eq3-via-else-d2-eq3}
 
 pub returns-then-bad_ids : goal.returns-then-bad_ids
 unfolding set_id
@@ -20,12 +20,12 @@ returns-then-bad_ids c =
     λ e h1 h2 h3.
     refuses badcall (λ p l. rw (h1, h2, h3, ← c.bad_ids.ensures, c.if-bad_ids.true) (refl, refl))
 
-pub returns-then-not-privileged : goal.returns-then-not-privileged
+pub returns-then-of-ne0 : goal.returns-then-of-ne0
 unfolding set_id
-returns-then-not-privileged c =
+returns-then-of-ne0 c =
     λ e h1 h2 h3.
     refuses priv
-    (λ p l. rw (h1, h2, h3, ← c.bad_ids.ensures, c.if-bad_ids.false, eq-eqb _ 3 c.if-d2-eq3.true, privileged-is l c.privileged.ensures, c.if-not-privileged.true) (refl, refl))
+    (λ p l. rw (h1, h2, h3, ← c.bad_ids.ensures, c.if-bad_ids.false, eq-eqb _ 3 c.if-d2-eq3.true, privileged-is l c.of.ensures, ne_eqb _ 0 c.if-of-ne0.true) (refl, refl))
 
 pub returns : goal.returns
 returns c =
@@ -36,7 +36,7 @@ returns c =
     let fits : bad_ids e ≡ false = rw (h1, h2, h3) (sym c.bad_ids.ensures ∙ c.if-bad_ids.false) in
     let may : (eqb a.d2 3 && not (eqb user 0)) ≡ false =
     elim c.else-d2-eq3.branch [
-      | else-d2-eq3-via-then-d2-eq3+else-not-privileged w ↦ rw (← w.privileged.ensures, w.if-not-privileged.false, eq-eqb _ 3 w.if-d2-eq3.true)
+      | else-d2-eq3-via-then-d2-eq3+else-of-ne0 w ↦ rw (← w.of.ensures, eq-eqb _ 0 w.if-of-ne0.false, eq-eqb _ 3 w.if-d2-eq3.true)
       | else-d2-eq3-via-else-d2-eq3 w ↦ rw (ne_eqb _ 3 w.if-d2-eq3.false)
     ] in
     let source : c.if-d2-eq3-2.id ≡ cond (eqb a.d2 3) a.d3 (get_or m (a.i * PLACE + field_at a.ids a.d2) 0) =
