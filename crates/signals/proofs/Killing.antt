@@ -1,12 +1,12 @@
 -- Exit and kill: the checks in their order, and what the caller is told. Assumes nothing.
-use Prim.Native.Nat.{ℕ, ◌+◌, ◌*◌, ◌≤◌, ◌<◌}
+use Prim.Native.Nat.{ℕ, ◌+◌, ◌*◌, ◌<◌}
 use native.Mathlib.Omega.{arith}
 use mathlib.Core.Path.{◌≡◌, refl, sym, ap, ◌∙◌, subst}
 use mathlib.Core.Bool.{Bool, true, false, not, ◌||◌}
 use mathlib.Core.List.{List}
 use lib.ListN.{get_or}
-use lib.Dec.{eqb, ltb}
-use borrow.Author.Tests.{eq-eqb, eqb-false, eqb-true, ne_eqb, not-false, not-true, le-leb, lt-leb, ltb-false, ltb-true}
+use lib.Dec.{eqb}
+use borrow.Author.Tests.{eq-eqb, ne_eqb}
 use Rattle.locks.specs.Lists.{between}
 use Rattle.locks.proofs.Tests.{or_left, or_right}
 use Rattle.rules.specs.State.{Machine, pids, lives, process_of, privileged}
@@ -20,6 +20,10 @@ use Rattle.places.specs.Places.{place_of, Calls, LIVE, Laid, Lays, PLACE, USER, 
 use Rattle.places.specs.Settled.{Settled, answer_of, masked}
 use Rattle.rules.specs.Reply.{four_of}
 use Rattle.places.proofs.Callings.{caller-get}
+use Rattle.std.specs.Prelude.{Option, Some, None, MatchOption, is_some}
+use Rattle.rules.specs.Outcome.{kind_number}
+use Rattle.rules.specs.declared.outcome.AnswerKind.{AnswerKind}
+use Rattle.rules.specs.declared.outcome.AnswerKind.TheVariants.{Done, CallerEnded}
 use Rattle.signals.proofs.Found.{found_at, found_first, found-live, found_none, found-pid, found-process}
 use Rattle.places.proofs.Laying.{procs-get, procs-live}
 use Rattle.signals.proofs.Arriving.{in-procs}
@@ -41,18 +45,26 @@ module _ {m t : List ℕ} {i : ℕ} (c : Calls m t i) {x : ℕ} (e : (caller m t
 
 -- ---- the sender lives on, or has ended
 
-module _ {s u : Machine} {out m t : List ℕ} (n : ℕ) (l : Lays m t u) {k : ℕ} (e : k ≡ place_of n (pids (procs_in m))) {kind : ℕ} (o : out ≡ four_of (masked kind (woken_mask s u) (ended_mask s u))) where
-  pub sent-ended : k ≡ get_or m LIVE 0 → kind ≡ 2 → Settled s (outlived n u) out m t
-  unfolding outlived
-  sent-ended h q = settled-second _ (found_none u n (found_at n l e) (h ∙ procs-live l.procs)) (settled-masked caller_ended l refl refl (o ∙ ap (λ (x : ℕ). four_of (masked x (woken_mask s u) (ended_mask s u))) q))
+module _ {u : Machine} {m t : List ℕ} (n : ℕ) (l : Lays m t u) (r : Option ℕ) (f : MatchOption r (get_or m LIVE 0 ≡ place_of n (pids (procs_in m))) (λ k. (k < get_or m LIVE 0) × (k ≡ place_of n (pids (procs_in m))))) where
+  lives-found : lives u n ≡ is_some r
+  lives-found = go r f
+    where
+      go : (q : Option ℕ) → MatchOption q (get_or m LIVE 0 ≡ place_of n (pids (procs_in m))) (λ k. (k < get_or m LIVE 0) × (k ≡ place_of n (pids (procs_in m)))) → lives u n ≡ is_some q
+      go None e = found_none u n (found_at n l e) (procs-live l.procs)
+      go (Some k) e = found-live u n (found_at n l e.1) (rw (procs-live l.procs) at e.0)
 
-  pub sent-done : k < get_or m LIVE 0 → kind ≡ 0 → Settled s (outlived n u) out m t
-  unfolding outlived
-  sent-done h q = settled-first _ (found-live u n (found_at n l e) (rw (procs-live l.procs) at h)) (settled-masked done l refl refl (o ∙ ap (λ (x : ℕ). four_of (masked x (woken_mask s u) (ended_mask s u))) q))
+  module _ {s : Machine} {out : List ℕ} {kind : AnswerKind} (o : out ≡ four_of (masked (kind_number kind) (woken_mask s u) (ended_mask s u))) where
+    pub sent-ended : is_some r ≡ false → kind ≡ CallerEnded → Settled s (outlived n u) out m t
+    unfolding outlived
+    sent-ended h q = settled-second _ (lives-found ∙ h) (settled-masked caller_ended l refl refl (o ∙ ap (λ (x : AnswerKind). four_of (masked (kind_number x) (woken_mask s u) (ended_mask s u))) q))
+
+    pub sent-done : is_some r ≡ true → kind ≡ Done → Settled s (outlived n u) out m t
+    unfolding outlived
+    sent-done h q = settled-first _ (lives-found ∙ h) (settled-masked done l refl refl (o ∙ ap (λ (x : AnswerKind). four_of (masked (kind_number x) (woken_mask s u) (ended_mask s u))) q))
 
 -- ---- kill, of the two numbers that it reads
 
-abbrev outside : ℕ → ℕ → Bool
+abbrev pub outside : ℕ → ℕ → Bool
 outside a b = not (between 1 7 a) || not (between 2 65535 b)
 
 -- the process of that PID, where the sender is not privileged, is the sender's user's
@@ -61,26 +73,6 @@ allowed p q = privileged p || eqb p.user.effective q.user.effective
 
 abbrev kill_as : ℕ → ℕ → Process → Machine → Outcome Machine
 kill_as a b p s = when (outside a b) badcall (when (not (lives s b)) noproc (when (not (allowed p (process_of s b))) priv (outlived p.pid (arrives a b s))))
-
--- by the tests of the code
-module _ (a b : ℕ) where
-  pub low-signal : a < 1 → outside a b ≡ true
-  low-signal h = rw (lt-leb 1 a h)
-
-  module _ (f : 1 ≤ a) where
-    pub high-signal : ltb 7 a ≡ true → outside a b ≡ true
-    high-signal h = rw (le-leb 1 a f, lt-leb a 7 (ltb-true 7 a h))
-
-    module _ (g : ltb 7 a ≡ false) where
-      pub low-pid : ltb b 2 ≡ true → outside a b ≡ true
-      low-pid h = rw (le-leb 1 a f, le-leb a 7 (ltb-false 7 a g), lt-leb 2 b (ltb-true b 2 h))
-
-      module _ (d : ltb b 2 ≡ false) where
-        pub high-pid : ltb 65535 b ≡ true → outside a b ≡ true
-        high-pid h = rw (le-leb 1 a f, le-leb a 7 (ltb-false 7 a g), le-leb 2 b (ltb-false b 2 d), lt-leb b 65535 (ltb-true 65535 b h))
-
-        pub in-range : ltb 65535 b ≡ false → outside a b ≡ false
-        in-range h = rw (le-leb 1 a f, le-leb a 7 (ltb-false 7 a g), le-leb 2 b (ltb-false b 2 d), le-leb b 65535 (ltb-false 65535 b h))
 
 -- whether the sender may, by the users that the code has read
 module _ {m t : List ℕ} {i : ℕ} (c : Calls m t i) {w : ℕ} (r : w ≡ get_or m (i * PLACE + USER) 0) where
@@ -96,13 +88,13 @@ module _ {m t : List ℕ} {i : ℕ} (c : Calls m t i) {w : ℕ} (r : w ≡ get_o
     unfolding numbers
     receiver = d ∙ procs-get c.laid.lays.procs j (let n = procs-live c.laid.lays.procs in omega arith) USER (omega arith)
 
-    pub may-own : not (eqb w z) ≡ false → allowed (caller m t i) (caller m t j) ≡ true
+    pub may-own : w ≡ z → allowed (caller m t i) (caller m t j) ≡ true
     may-own f =
-        or_right (privileged (caller m t i)) _ (eq-eqb (caller m t i).user.effective (caller m t j).user.effective (sym sender ∙ eqb-true w z (not-false (eqb w z) f) ∙ receiver))
+        or_right (privileged (caller m t i)) _ (eq-eqb (caller m t i).user.effective (caller m t j).user.effective (sym sender ∙ f ∙ receiver))
 
-    pub may-not : (w ≡ 0 → ⊥) → not (eqb w z) ≡ true → allowed (caller m t i) (caller m t j) ≡ false
+    pub may-not : (w ≡ 0 → ⊥) → (w ≡ z → ⊥) → allowed (caller m t i) (caller m t j) ≡ false
     may-not f g =
-        rw (ne_eqb (caller m t i).user.effective 0 (λ q. f (sender ∙ q)), ne_eqb (caller m t i).user.effective (caller m t j).user.effective (λ q. eqb-false w z (not-true (eqb w z) g) (sender ∙ q ∙ sym receiver)))
+        rw (ne_eqb (caller m t i).user.effective 0 (λ q. f (sender ∙ q)), ne_eqb (caller m t i).user.effective (caller m t j).user.effective (λ q. g (sender ∙ q ∙ sym receiver)))
 
 -- what `send` asks of the process that the code has found
 pub kill-first : {m t : List ℕ} (l : Laid m t) (b : ℕ) {j : ℕ} → j ≡ place_of b (pids (procs_in m)) → j < get_or m LIVE 0 → j ≡ place_of (caller m t j).pid (pids (machine m t).procs)

@@ -1,30 +1,32 @@
--- A loop that looks for a process that passes a test. Assumes nothing.
-use Prim.Native.Nat.{ℕ, ◌+◌, ◌≤◌, ◌<◌}
+-- Whether some element of a list passes a test, by a look at each place. Assumes nothing.
+use Prim.Native.Nat.{ℕ, ◌<◌, zero-le}
 use native.Mathlib.Omega.{arith}
-use native.Mathlib.Numerals.{add-one}
-use mathlib.Core.Path.{◌≡◌, refl, sym, ap, ◌∙◌}
-use mathlib.Core.Bool.{Bool, true, false}
+use mathlib.Core.Path.{◌≡◌, sym, ◌∙◌}
+use mathlib.Core.Bool.{Bool, true, false, false≢true}
 use mathlib.Core.List.{List}
-use lib.ListN.{length, get_or, take}
-use lib.Seq.{take-suc, take_all}
+use lib.ListN.{length, get_or}
+use Rattle.std.specs.Bool.{MatchBool}
+use Rattle.std.specs.List.{range_with_len, HoldsAt, AllWithin}
+use Rattle.std.proofs.lemmas.List.FromFn.{length-range_with_len, get_or-range_with_len}
 use Rattle.locks.specs.Lists.{any}
-use Rattle.locks.proofs.Lists.{any-end, some-any}
+use Rattle.locks.proofs.Tests.{off}
+use Rattle.locks.proofs.Lists.{any_some, some-any}
 
-module _ {A : Type 0} (f : A → Bool) where
-  -- none of the first i does
-  pub record Looking (xs : List A) (i : ℕ) : Type 0 where
-    pub inside : i ≤ length xs
-    pub none : any f (take i xs) ≡ false
+place : (n k : ℕ) → k < n → get_or (range_with_len 0 n) k 0 ≡ k
+place n k l = get_or-range_with_len 0 n k 0 l ∙ omega arith
 
-  pub looking : (xs : List A) → Looking xs 0
-  looking xs = record { inside = omega arith; none = refl }
-
-  module _ {xs : List A} {i : ℕ} (k : Looking xs i) where
-    pub look-on : (d : A) → i < length xs → f (get_or xs i d) ≡ false → Looking xs (i + 1)
-    look-on d l h = record { inside = omega arith; none = rw (add-one i, take-suc xs i d l, any-end f (take i xs) (get_or xs i d), k.none) h }
-
-    pub look-found : (d : A) → i < length xs → f (get_or xs i d) ≡ true → true ≡ any f xs
-    look-found d l h = sym (some-any f xs d i l h)
-
-    pub looked : length xs ≤ i → false ≡ any f xs
-    looked l = sym k.none ∙ ap (any f) (take_all i xs l)
+pub any-range : {A : Type 0} (f : A → Bool) (xs : List A) (d : A) {n : ℕ} {b : Bool} → n ≡ length xs
+    → MatchBool b ((k : ℕ) × (k < length (range_with_len 0 n)) × HoldsAt (λ k. k < length xs → true ≡ f (get_or xs k d)) (range_with_len 0 n) k)
+    (AllWithin (λ k. k < length xs → false ≡ f (get_or xs k d)) (range_with_len 0 n) 0 (length (range_with_len 0 n)))
+    → b ≡ any f xs
+any-range f xs d {n} {b = true} e (k, l, h) =
+    let i : k < n = rw length-range_with_len at l in
+    let j : k < length xs = omega arith in
+    sym (some-any f xs d k j (sym (rw (place n k i) at (h 0) j)))
+any-range f xs d {n} {b = false} e h =
+    sym
+    (off (any f xs)
+    (λ a.
+    let s = any_some f xs d a in
+    let i : s.at < n = omega (arith, s.inside) in
+    false≢true (rw (place n s.at i) at (h s.at 0 zero-le (rw length-range_with_len i)) s.inside ∙ s.passes)))

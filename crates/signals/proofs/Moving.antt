@@ -1,12 +1,13 @@
 -- Processes move up in their array. Assumes nothing.
-use Prim.Native.Nat.{ℕ, ◌+◌, ◌-◌, ◌*◌, ◌≤◌, ◌<◌}
+use Prim.Native.Nat.{ℕ, zero, suc, ◌+◌, ◌-◌, ◌*◌, ◌≤◌, ◌<◌}
 use native.Mathlib.Omega.{arith}
 use native.Mathlib.Numerals.{add-one}
 use mathlib.Core.Path.{◌≡◌, refl, sym, ap, ◌∙◌}
 use mathlib.Core.Bool.{not}
-use mathlib.Core.List.{List, [], ◌∷◌, ◌++◌, append-nil}
-use lib.ListN.{length, get_or, take, drop, set, replicate, length-append, length-drop, length-set, get_or-replicate}
-use lib.Seq.{paste, paste-suc, length_paste_head, length-take-le, get_or-append-add, get_or-drop, set_at, set-get_or, drop-append_seam, take_all, take-suc}
+use mathlib.Core.List.{List, [], ◌∷◌, ◌++◌, append-nil, append_assoc}
+use lib.ListN.{length, get_or, take, drop, set, replicate, length-set, replicate-append-replicate}
+use lib.Seq.{paste, length-take-le, set_at, set-get_or, drop-append_seam, drop-drop, take_all, take-suc}
+use borrow.Rule.Slice.PartMut.{put_mid}
 use borrow.Author.Tests.{eq-eqb, ne_eqb}
 use Rattle.locks.specs.Lists.{padded, keep}
 use Rattle.locks.proofs.Fewer.{fewer-keep, fewer-all}
@@ -14,40 +15,17 @@ use Rattle.rules.specs.State.{no_process, new_process, has}
 use Rattle.rules.specs.declared.state.Process.{Process}
 use Rattle.locks.specs.Pieces.{joined}
 use Rattle.locks.specs.Gaps.{unused}
-use Rattle.signals.specs.Moved.{Moved, Places, counts_in}
-use Rattle.places.specs.Places.{Housed, LIVE, NEXT, NUMBERS, PID, PLACE, PLACES, Procs, USED, laid_procs, numbers, procs_in, whole}
+use Rattle.signals.specs.Moved.{Moved, Places}
+use Rattle.places.specs.Places.{Housed, LIVE, NEXT, PID, PLACE, PLACES, Procs, USED, laid_procs, numbers, procs_in, whole}
 use Rattle.locks.proofs.Lists.{keep_append}
-use Rattle.locks.proofs.Closing.{Closes, closing, next-goes, next-is, next-stays, unused-all, unused-more}
+use Rattle.locks.proofs.Closing.{Closes, closing, next-goes, next-is, next-stays, unused-all}
 use Rattle.locks.proofs.Padding.{padded-get, padded-length}
 use Rattle.places.proofs.Laying.{procs-live, wide}
-use Rattle.locks.proofs.Pieces.{joined-get, joined_length, joined-paste, piece-at}
-
--- ---- numbers copied one by one
-
--- what lies behind the copied part is as it was
-past-paste : (d s : List ℕ) (a j k : ℕ) → a + j ≤ k → a ≤ length d → j ≤ length s → get_or (paste d a s j) k 0 ≡ get_or d k 0
-past-paste d s a j k l h b =
-    let e : length (take a d ++ take j s) ≡ a + j = length_paste_head d a s j h b in
-    let o : k ≡ (a + j) + (k - (a + j)) = omega arith in
-    rw o (ap (λ (x : ℕ). get_or (paste d a s j) (x + (k - (a + j))) 0) (sym e) ∙ get_or-append-add (take a d ++ take j s) (drop (a + j) d) (k - (a + j)) 0 ∙ get_or-drop (a + j) d (k - (a + j)) 0)
-
-pub copy_more : (d : List ℕ) (to from j : ℕ) {m : List ℕ} → m ≡ paste d (to * PLACE) (drop (from * PLACE) d) j → to < from → from < 16 → length d ≡ NUMBERS → j < PLACE
-    → set m (to * PLACE + j) (get_or m (from * PLACE + j) 0) ≡ paste d (to * PLACE) (drop (from * PLACE) d) (j + 1)
-copy_more d to from j e l h n b =
-    let c : j < length (drop (from * PLACE) d) = rw (length-drop (from * PLACE) d) (omega arith) in
-    rw (e, past-paste d (drop (from * PLACE) d) (to * PLACE) j (from * PLACE + j) (omega arith) (omega arith) (omega arith), ← get_or-drop (from * PLACE) d j 0, add-one j) (paste-suc d (to * PLACE) (drop (from * PLACE) d) j 0 (omega arith) c)
-
-pub clear-more : (d : List ℕ) (i j : ℕ) {m : List ℕ} → m ≡ paste d (i * PLACE) (replicate PLACE 0) j → i < 16 → length d ≡ NUMBERS → j < PLACE → set m (i * PLACE + j) 0 ≡ paste d (i * PLACE) (replicate PLACE 0) (j + 1)
-clear-more d i j e h n b =
-    let z : get_or (replicate {A = ℕ} PLACE 0) j 0 ≡ 0 = get_or-replicate PLACE j 0 0 b in
-    rw (e, add-one j) (ap (λ (x : ℕ). set (paste d (i * PLACE) (replicate PLACE 0) j) (i * PLACE + j) x) (sym z) ∙ paste-suc d (i * PLACE) (replicate PLACE 0) j 0 (omega arith) b)
+use Rattle.locks.proofs.Pieces.{joined-append, joined-drop, joined-get, joined_length, joined-paste, joined-take, piece-at}
 
 -- ---- places
 
 module _ {m : List ℕ} {ys : List Process} {z : List ℕ} (p : Places m ys z) where
-  pub places-long : length z ≡ 3 → length m ≡ NUMBERS
-  places-long h = ap length p.is ∙ length-append (joined numbers ys) z ∙ rw (joined_length numbers PLACE wide ys, p.long, h)
-
   pub places-copy : (to from : ℕ) → to < 16 → from < 16 → Places (paste m (to * PLACE) (drop (from * PLACE) m) PLACE) (set ys to (get_or ys from no_process)) z
   places-copy to from a b =
       record {
@@ -55,14 +33,6 @@ module _ {m : List ℕ} {ys : List Process} {z : List ℕ} (p : Places m ys z) w
             ap (λ (x : List ℕ). paste x (to * PLACE) (drop (from * PLACE) x) PLACE) p.is
             ∙ joined-paste numbers PLACE wide ys z to (drop (from * PLACE) (joined numbers ys ++ z)) (get_or ys from no_process) (omega (arith, p.long)) (piece-at numbers PLACE wide ys z from no_process (omega (arith, p.long)));
         long = length-set ys to (get_or ys from no_process) ∙ p.long;
-      }
-
-  pub places-clear : (i : ℕ) → i < 16 → Places (paste m (i * PLACE) (replicate PLACE 0) PLACE) (set ys i no_process) z
-  unfolding numbers no_process new_process
-  places-clear i a =
-      record {
-        is = ap (λ (x : List ℕ). paste x (i * PLACE) (replicate PLACE 0) PLACE) p.is ∙ joined-paste numbers PLACE wide ys z i (replicate PLACE 0) no_process (omega (arith, p.long)) refl;
-        long = length-set ys i no_process ∙ p.long;
       }
 
 -- ---- those that stay, moved up
@@ -79,10 +49,9 @@ pub record Moves (n : ℕ) (ps : List Process) (used next : ℕ) (m : List ℕ) 
   pub places : Places m ys (counts ps used next)
   pub closes : Closes (stay n ps i) (padded PLACES no_process ps) ys k i
   pub behind : k ≤ i
-  pub long : length m ≡ NUMBERS
 
 moves : {n : ℕ} {ps : List Process} {used next : ℕ} {m : List ℕ} {k i : ℕ} (ys : List Process) → Places m ys (counts ps used next) → Closes (stay n ps i) (padded PLACES no_process ps) ys k i → Moves n ps used next m k i
-moves ys p c = record { ys = ys; places = p; closes = c; behind = c.behind; long = places-long p refl }
+moves ys p c = record { ys = ys; places = p; closes = c; behind = c.behind }
 
 pub moving : (n : ℕ) {m : List ℕ} {ps : List Process} {used next : ℕ} → Procs m ps used next → Moves n ps used next m 0 0
 unfolding laid_procs
@@ -136,28 +105,42 @@ moved {n} {m} {u} {k} {i} h c o =
       fewer = omega (arith, c.behind);
     }
 
-pub moved-long : {n : ℕ} {m u : List ℕ} {k : ℕ} → Moved n m u k → length u ≡ NUMBERS
-moved-long c = places-long c.places refl
-
 -- ---- the places that are left
 
-pub places-more : {m z : List ℕ} (ys : List Process) (k i : ℕ) → Places m (unused no_process k i ys) z → length ys ≡ PLACES → k ≤ i → i < PLACES → Places (paste m (i * PLACE) (replicate PLACE 0) PLACE) (unused no_process k (i + 1) ys) z
-places-more ys k i p n b l = rw (unused-more no_process k ys i b (omega arith)) at (places-clear p i l)
+zeros : (n : ℕ) → replicate (n * PLACE) 0 ≡ joined numbers (replicate n no_process)
+unfolding numbers no_process new_process
+zeros zero = refl
+zeros (suc n) = let e : suc n * PLACE ≡ PLACE + n * PLACE = omega arith in rw (e, ← replicate-append-replicate {A = ℕ} PLACE (n * PLACE) 0, zeros n)
+
+-- those from k to n become zero
+pub cleared : {m zs z : List ℕ} {ys : List Process} → Places m ys z → (k n : ℕ) → k ≤ n → n ≤ PLACES → zs ≡ replicate (n * PLACE - k * PLACE) 0
+    → put_mid (k * PLACE) (n * PLACE - k * PLACE) m zs ≡ joined numbers (unused no_process k n ys) ++ z
+cleared {m} {zs} {z} {ys} p k n l b e =
+    let gap = replicate (n - k) no_process in
+    let o : k * PLACE + (n * PLACE - k * PLACE) ≡ n * PLACE = omega arith in
+    let w : n * PLACE - k * PLACE ≡ (n - k) * PLACE = omega arith in
+    let first : take (k * PLACE) m ≡ joined numbers (take k ys) = ap (take (k * PLACE)) p.is ∙ joined-take numbers PLACE wide ys z k (omega (arith, p.long)) in
+    let last : drop (n * PLACE) m ≡ joined numbers (drop n ys) ++ z = ap (drop (n * PLACE)) p.is ∙ joined-drop numbers PLACE wide ys z n (omega (arith, p.long)) in
+    let middle : zs ≡ joined numbers gap = e ∙ ap (λ (x : ℕ). replicate x 0) w ∙ zeros (n - k) in
+    rw (drop-drop, o, first, last, middle, joined-append numbers PLACE wide (take k ys) (gap ++ drop n ys), joined-append numbers PLACE wide gap (drop n ys), append_assoc (joined numbers (take k ys)) (joined numbers gap ++ joined numbers (drop n ys)) z, append_assoc (joined numbers gap) (joined numbers (drop n ys)) z)
 
 -- a process has gone
-pub removed : {n : ℕ} {m u v : List ℕ} {k : ℕ} → Housed m → (c : Moved n m u k) → Places v (unused no_process k (get_or m LIVE 0) c.ys) (counts_in m) → Procs (set v LIVE k) (keep (λ p. not (has n p)) (procs_in m)) (get_or m USED 0) (get_or m NEXT 0)
+pub removed : {n : ℕ} {m u zs : List ℕ} {k : ℕ} → Housed m → Moved n m u k → zs ≡ replicate (get_or m LIVE 0 * PLACE - k * PLACE) 0
+    → Procs (set (put_mid (k * PLACE) (get_or m LIVE 0 * PLACE - k * PLACE) u zs) LIVE k) (keep (λ p. not (has n p)) (procs_in m)) (get_or m USED 0) (get_or m NEXT 0)
 unfolding laid_procs
-removed {n} {m} {u} {v} {k} h c p =
+removed {n} {m} {u} {zs} {k} h c z =
     let ps = procs_in m in
     let rest = keep (λ p. not (has n p)) ps in
     let live = get_or m LIVE 0 in
+    let ys = unused no_process k live c.ys in
     let e : k ≡ length rest = sym (length-take-le k c.ys (omega (arith, c.fewer, h.live, c.places.long))) ∙ ap length c.kept in
-    let all : unused no_process k live c.ys ≡ padded PLACES no_process rest = unused-all no_process k c.ys c.kept e c.fewer h.live c.behind in
+    let all : ys ≡ padded PLACES no_process rest = unused-all no_process k c.ys c.kept e c.fewer h.live c.behind in
+    let few : length rest ≤ PLACES = omega (arith, c.fewer, h.live) in
     record {
       is =
-          ap (λ (x : List ℕ). set x LIVE k) p.is
-          ∙ set_at (joined numbers (unused no_process k live c.ys)) live (get_or m USED 0 ∷ get_or m NEXT 0 ∷ []) k LIVE (joined_length numbers PLACE wide (unused no_process k live c.ys) ∙ rw p.long)
+          ap (λ (x : List ℕ). set x LIVE k) (cleared c.places k live c.fewer h.live z)
+          ∙ set_at (joined numbers ys) live (get_or m USED 0 ∷ get_or m NEXT 0 ∷ []) k LIVE (joined_length numbers PLACE wide ys ∙ rw (all, padded-length PLACES no_process rest few))
           ∙ rw (all, e);
-      few = omega (arith, c.fewer, h.live);
+      few = few;
       whole = fewer-all whole (fewer-keep (λ p. not (has n p)) ps) h.procs.whole;
     }

@@ -1,58 +1,47 @@
--- A loop that notes the PID and the sleep of each process. Assumes nothing.
-use Prim.Native.Nat.{ℕ, ◌+◌, ◌*◌, ◌≤◌, ◌<◌}
+-- The processes as they were noted. Assumes nothing.
+use Prim.Native.Nat.{ℕ, zero, suc, ◌+◌, ◌*◌, ◌≤◌, ◌<◌}
 use native.Mathlib.Omega.{arith}
-use mathlib.Core.Path.{◌≡◌, sym, ◌∙◌}
+use mathlib.Core.Path.{◌≡◌, sym, ◌∙◌, subst}
 use mathlib.Core.List.{List}
-use lib.ListN.{length, get_or, set, length-set}
-use lib.Seq.{get_or-set_same, get_or-set_other}
-use borrow.Author.Count.{below_more}
-use Rattle.rules.specs.State.{no_process}
-use Rattle.rules.specs.declared.state.Process.{Process}
-use Rattle.signals.specs.Noted.{Noted}
+use lib.ListN.{length, get_or}
+use lib.Dec.{eqb}
+use borrow.Author.Tests.{eqb-false, eqb-true}
+use denote.Param.Members.{Mut}
+use Rattle.locks.proofs.Tests.{cases}
+use Rattle.std.specs.Array.{IsFromFnResult, IsFromFnResultFrom}
+use Rattle.std.specs.Fn.{Called}
+use Rattle.signals.specs.declared.masks.Note.{Note}
+use Rattle.signals.specs.declared.masks.Before.{Before}
+use Rattle.signals.specs.Noted.{Noted, no_note}
 use Rattle.places.specs.Places.{Housed, LIVE, Laid, PID, PLACE, PLACES, SLEEP, machine, numbers, procs_in}
 use Rattle.places.proofs.Laying.{procs-get, procs-live}
 
--- the first i are noted
-pub record Noting (ps : List Process) (pids sleeps : List ℕ) (i : ℕ) : Type 0 where
-  pub inside : i ≤ length ps
-  pub pids-long : length pids ≡ PLACES
-  pub sleeps-long : length sleeps ≡ PLACES
-  pub pid : (j : ℕ) → j < i → get_or pids j 0 ≡ (get_or ps j no_process).pid
-  pub sleep : (j : ℕ) → j < i → get_or sleeps j 0 ≡ (get_or ps j no_process).rest.sleep
+-- what a closure that stays as it is made of each index
+from_fn-each : {F B : Type 0} (g : Mut F (ℕ × Unit {0}) B) (P : ℕ → B → Type 0) (f : F) (ys : List B) (d : B) → ((i : ℕ) (y : B) (q : F) → Called g f (i, tt) y q → (q ≡ f) × P i y)
+    → (n i : ℕ) → IsFromFnResultFrom g f ys i n → (j : ℕ) → i ≤ j → j < i + n → P j (get_or ys j d)
+from_fn-each g P f ys d h zero i r j a b = absurd (omega arith)
+from_fn-each g P f ys d h (suc n) i r j a b =
+    let e = h i r.1 r.0 r.3 in
+    let here : P i (get_or ys i d) = subst (λ y. P i y) (sym (r.2.1 d)) e.1 in
+    cases (eqb j i)
+    (λ o. subst (λ (k : ℕ). P k (get_or ys k d)) (sym (eqb-true j i o)) here)
+    (λ o. let z = eqb-false j i o in from_fn-each g P f ys d h n (i + 1) (subst (λ k. IsFromFnResultFrom g k ys (i + 1) n) e.0 r.4) j (omega arith) (omega arith))
 
-pub noting : (ps : List Process) {pids sleeps : List ℕ} → length pids ≡ PLACES → length sleeps ≡ PLACES → Noting ps pids sleeps 0
-noting ps e f =
-    record { inside = omega arith; pids-long = e; sleeps-long = f; pid = λ j (h : j < 0). absurd (omega arith); sleep = λ j (h : j < 0). absurd (omega arith) }
-
--- one number more
-set_more : (f : ℕ → ℕ) (xs : List ℕ) (i : ℕ) {x : ℕ} → i < length xs → x ≡ f i → ((j : ℕ) → j < i → get_or xs j 0 ≡ f j) → (j : ℕ) → j < i + 1 → get_or (set xs i x) j 0 ≡ f j
-set_more f xs i {x} l e h =
-    below_more (λ j. get_or (set xs i x) j 0 ≡ f j) i (λ j (b : j < i). get_or-set_other xs i j x 0 (λ (a : j ≡ i). omega arith) ∙ h j b) (get_or-set_same xs i x 0 l ∙ e)
-
-module _ {m ns zs : List ℕ} {i : ℕ} (o : Housed m) (k : Noting (procs_in m) ns zs i) where
-  -- what the code has read of the next
-  pub note-more : {x y : ℕ} → i < get_or m LIVE 0 → x ≡ get_or m (i * PLACE + PID) 0 → y ≡ get_or m (i * PLACE + SLEEP) 0 → Noting (procs_in m) (set ns i x) (set zs i y) (i + 1)
+module _ {m : List ℕ} (o : Housed m) {F : Type 0} (g : Mut F (ℕ × Unit {0}) Note) {f : F} {b : Before} (r : IsFromFnResult g f b.notes PLACES) (h : (i : ℕ) (y : Note) (q : F) → Called g f (i, tt) y q → (q ≡ f) × ((y.pid ≡ get_or m (i * PLACE + PID) 0) × (y.sleep ≡ get_or m (i * PLACE + SLEEP) 0))) where
+  pub noted : b.live ≡ get_or m LIVE 0 → Noted (procs_in m) b
   unfolding numbers
-  note-more {x} {y} h e f =
+  noted e =
       let n = procs-live o.procs in
-      let l : i < length (procs_in m) = omega arith in
-      let b : i < PLACES = omega (arith, o.live) in
+      let each = from_fn-each g (λ i y. (y.pid ≡ get_or m (i * PLACE + PID) 0) × (y.sleep ≡ get_or m (i * PLACE + SLEEP) 0)) f b.notes no_note h PLACES 0 r.each in
       record {
-        inside = omega arith;
-        pids-long = length-set ns i x ∙ k.pids-long;
-        sleeps-long = length-set zs i y ∙ k.sleeps-long;
-        pid = set_more (λ j. (get_or (procs_in m) j no_process).pid) ns i (omega (arith, k.pids-long)) (e ∙ procs-get o.procs i l PID (omega arith)) k.pid;
-        sleep = set_more (λ j. (get_or (procs_in m) j no_process).rest.sleep) zs i (omega (arith, k.sleeps-long)) (f ∙ procs-get o.procs i l SLEEP (omega arith)) k.sleep;
+        live = e ∙ n;
+        pid = λ j (l : j < length (procs_in m)). (each j (omega arith) (omega (arith, o.live))).0 ∙ procs-get o.procs j l PID (omega arith);
+        sleep = λ j (l : j < length (procs_in m)). (each j (omega arith) (omega (arith, o.live))).1 ∙ procs-get o.procs j l SLEEP (omega arith);
       }
-
-  pub noted : get_or m LIVE 0 ≤ i → Noted (procs_in m) ns zs
-  noted h =
-      let n = procs-live o.procs in
-      record { pid = λ j (l : j < length (procs_in m)). k.pid j (omega arith); sleep = λ j (l : j < length (procs_in m)). k.sleep j (omega arith) }
 
 -- of the machine that the arrays show
 module _ {m t : List ℕ} (l : Laid m t) where
-  pub noted_here : {ns zs : List ℕ} → Noted (procs_in m) ns zs → Noted (machine m t).procs ns zs
+  pub noted_here : {b : Before} → Noted (procs_in m) b → Noted (machine m t).procs b
   unfolding machine
   noted_here n = n
 

@@ -3,14 +3,12 @@ use Prim.Native.Nat.{ℕ, ◌+◌, ◌-◌, ◌*◌, ◌≤◌, ◌<◌}
 use native.Mathlib.Omega.{arith}
 use native.Mathlib.Numerals.{add-one}
 use mathlib.Core.Path.{◌≡◌, refl, sym, ap, ◌∙◌}
-use mathlib.Core.Bool.{true, false}
 use mathlib.Core.List.{List, [], ◌∷◌, ◌++◌, map, map-append}
 use lib.ListN.{length, get_or, take, set, get_or-eq_default}
 use lib.Dec.{eqb}
 use lib.Seq.{take-suc, take_all, get_or-set_same, set-get_or}
 use borrow.Author.Tests.{eq-eqb, eqb-false, eqb-true, ne_eqb}
 use Rattle.locks.proofs.Tests.{cases}
-use Rattle.locks.specs.Lists.{any}
 use Rattle.rules.specs.State.{Machine, no_process, new_process, pids, process_of, put, with_alarm}
 use Rattle.rules.specs.Signals.{arrives}
 use Rattle.rules.specs.Clock.{slept, rings, alarms, ticked}
@@ -18,37 +16,23 @@ use Rattle.rules.specs.declared.state.Process.{Process}
 use Rattle.rules.proofs.Frame.{pids-put}
 use Rattle.places.specs.Places.{place_of}
 use Rattle.places.proofs.Located.{put-length}
-use Rattle.signals.specs.Noted.{Noted}
-use Rattle.places.specs.Places.{ALARM, Housed, LIVE, Laid, Lays, NEXT, PLACE, PLACES, Procs, Turns, USED, caller, machine, numbers, procs_in}
+use Rattle.signals.specs.Noted.{Noted, no_note}
+use Rattle.signals.specs.declared.masks.Note.{Note}
+use Rattle.signals.specs.declared.masks.Before.{Before}
+use Rattle.places.specs.Places.{ALARM, Housed, LIVE, Laid, Lays, NEXT, PLACE, Procs, Turns, USED, caller, machine, numbers, procs_in}
 use Rattle.signals.proofs.Found.{found_at, found_first, found-process}
 use Rattle.signals.proofs.Arriving.{caller-put, in-procs}
 use Rattle.signals.proofs.Elapsing.{owed}
 use Rattle.signals.proofs.Seconds.{due}
 use Rattle.places.proofs.Laying.{laid, lays_back, procs-back, procs-get, procs-live}
-use Rattle.signals.proofs.Looking.{Looking, look-found, look-on, looked}
-use Rattle.signals.proofs.Noting.{live_here, noted_here}
+use Rattle.signals.proofs.Noting.{noted_here}
 use Rattle.signals.proofs.Passing.{each-lays}
 
 -- ---- an alarm at its last second
 
-module _ {m : List ℕ} (h : Housed m) {i : ℕ} where
-  module _ (k : Looking due (procs_in m) i) where
-    due_in : i < get_or m LIVE 0 → i < length (procs_in m)
-    due_in l = let n = procs-live h.procs in omega arith
-
-    module _ (l : i < get_or m LIVE 0) {x : ℕ} (e : x ≡ get_or m (i * PLACE + ALARM) 0) where
-      due-is : x ≡ (get_or (procs_in m) i no_process).alarm
-      unfolding numbers
-      due-is = e ∙ procs-get h.procs i (due_in l) ALARM (omega arith)
-
-      pub due-found : x ≡ 1 → true ≡ any due (procs_in m)
-      due-found o = look-found due k no_process (due_in l) (eq-eqb (get_or (procs_in m) i no_process).alarm 1 (sym due-is ∙ o))
-
-      pub due-on : (x ≡ 1 → ⊥) → Looking due (procs_in m) (i + 1)
-      due-on o = look-on due k no_process (due_in l) (ne_eqb (get_or (procs_in m) i no_process).alarm 1 (λ f. o (due-is ∙ f)))
-
-    pub due-none : get_or m LIVE 0 ≤ i → false ≡ any due (procs_in m)
-    due-none l = looked due k (let n = procs-live h.procs in omega arith)
+pub due-at : {m : List ℕ} → Housed m → (i : ℕ) → i < length (procs_in m) → eqb (get_or m (i * PLACE + ALARM) 0) 1 ≡ due (get_or (procs_in m) i no_process)
+unfolding numbers
+due-at h i l = ap (λ (n : ℕ). eqb n 1) (procs-get h.procs i l ALARM (omega arith))
 
 -- ---- what the rule says
 
@@ -126,43 +110,41 @@ module _ {m t : List ℕ} {k : ℕ} (l : Laid m t) (b : k < get_or m LIVE 0) (e 
         let y : (caller m t k).alarm ≡ 0 → ⊥ = eqb-false (caller m t k).alarm 0 z in
         rw (rings-less (caller m t k) (machine m t) (omega arith) (λ f. o (left ∙ f))) less-lays)
 
--- ---- the alarms of those whose PIDs were noted
+-- ---- the alarms of those who were noted
 
 -- of the first i of them, each in the machine that those before it left
-pub record Ringing (s : Machine) (owed : List ℕ) (n : ℕ) (m t : List ℕ) (i : ℕ) : Type 0 where
-  pub inside : i ≤ n
-  pub room : n ≤ PLACES
+pub record Ringing (s : Machine) (before : Before) (m t : List ℕ) (i : ℕ) : Type 0 where
+  pub inside : i ≤ before.live
   pub house : Laid m t
-  pub lays : (ps : List Process) → length ps ≡ n → ((j : ℕ) → j < length ps → get_or owed j 0 ≡ (get_or ps j no_process).pid) → Lays m t (alarms (pids (take i ps)) s)
+  pub lays : (ps : List Process) → Noted ps before → Lays m t (alarms (pids (take i ps)) s)
 
-pub ringing : {m t : List ℕ} (owed : List ℕ) {n : ℕ} → Laid m t → n ≤ PLACES → Ringing (machine m t) owed n m t 0
+pub ringing : {m t : List ℕ} (before : Before) → Laid m t → Ringing (machine m t) before m t 0
 unfolding alarms
-ringing owed l h = record { inside = omega arith; room = h; house = l; lays = λ ps e f. l.lays }
+ringing before l = record { inside = omega arith; house = l; lays = λ ps n. l.lays }
 
-module _ {s : Machine} {owed : List ℕ} {n : ℕ} {m t : List ℕ} {i : ℕ} (g : Ringing s owed n m t i) where
-  module _ (l : i < n) {k : ℕ} (e : k ≡ place_of (get_or owed i 0) (pids (procs_in m))) where
-    at : k ≡ place_of (get_or owed i 0) (pids (machine m t).procs)
-    at = found_at (get_or owed i 0) g.house.lays e
+module _ {s : Machine} {before : Before} {m t : List ℕ} {i : ℕ} (g : Ringing s before m t i) where
+  module _ {note : Note} (l : i < before.live) (o : note ≡ get_or before.notes i no_note) {k : ℕ} (e : k ≡ place_of note.pid (pids (procs_in m))) where
+    at : k ≡ place_of note.pid (pids (machine m t).procs)
+    at = found_at note.pid g.house.lays e
 
     -- what comes of the next
-    pub rang : {u v : List ℕ} → Lays u v (rings (caller m t k) (machine m t)) → Ringing s owed n u v (i + 1)
+    pub rang : {u v : List ℕ} → Lays u v (rings (caller m t k) (machine m t)) → Ringing s before u v (i + 1)
     rang {u} {v} a =
         record {
           inside = omega arith;
-          room = g.room;
           house = laid a;
-          lays = λ ps h f.
-              let y = g.lays ps h f in
-              let b : i < length ps = omega arith in
+          lays = λ ps n.
+              let y = g.lays ps n in
+              let b : i < length ps = omega (arith, n.live) in
               let q : rings (caller m t k) (machine m t) ≡ rings (process_of (alarms (pids (take i ps)) s) (get_or ps i no_process).pid) (alarms (pids (take i ps)) s) =
-              ap (λ (p : Process). rings p (machine m t)) (found-process (machine m t) (get_or owed i 0) at)
-              ∙ ap (λ (j : ℕ). rings (process_of (machine m t) j) (machine m t)) (f i b)
+              ap (λ (p : Process). rings p (machine m t)) (found-process (machine m t) note.pid at)
+              ∙ ap (λ (j : ℕ). rings (process_of (machine m t) j) (machine m t)) (ap (λ (z : Note). z.pid) o ∙ n.pid i b)
               ∙ ap (λ (z : Machine). rings (process_of z (get_or ps i no_process).pid) z) (lays_back y) in
               rw (add-one i, take-suc ps i no_process b, map-append, alarms-end (pids (take i ps)) (get_or ps i no_process).pid s, ← q) a;
         }
 
     -- it has ended
-    pub rang-gone : get_or m LIVE 0 ≤ k → Ringing s owed n m t (i + 1)
+    pub rang-gone : get_or m LIVE 0 ≡ k → Ringing s before m t (i + 1)
     unfolding no_process new_process
     rang-gone h =
         let b : length (machine m t).procs ≤ k = let o = procs-live g.house.lays.procs in omega arith in
@@ -171,14 +153,14 @@ module _ {s : Machine} {owed : List ℕ} {n : ℕ} {m t : List ℕ} {i : ℕ} (g
 
     -- what `ring` asks
     pub rang-first : k < get_or m LIVE 0 → k ≡ place_of (caller m t k).pid (pids (machine m t).procs)
-    rang-first h = found_first (machine m t) (get_or owed i 0) at (let o = procs-live g.house.lays.procs in omega arith)
+    rang-first h = found_first (machine m t) note.pid at (let o = procs-live g.house.lays.procs in omega arith)
 
-  pub rang-all : n ≤ i → (ps : List Process) → length ps ≡ n → ((j : ℕ) → j < length ps → get_or owed j 0 ≡ (get_or ps j no_process).pid) → Lays m t (alarms (pids ps) s)
-  rang-all h ps e f = let b : length ps ≤ i = omega arith in rw (take_all i ps b) at (g.lays ps e f)
+  pub rang-all : before.live ≤ i → (ps : List Process) → Noted ps before → Lays m t (alarms (pids ps) s)
+  rang-all h ps n = let b : length ps ≤ i = omega (arith, n.live) in rw (take_all i ps b) at (g.lays ps n)
 
 -- ---- the second in which they ring
 
-pub loud-lays : {m t u v w ns zs : List ℕ} → Laid m t → Procs u (map slept (procs_in m)) (get_or m USED 0) (get_or m NEXT 0) → Noted (procs_in m) ns zs
-    → ((ps : List Process) → length ps ≡ get_or m LIVE 0 → ((j : ℕ) → j < length ps → get_or ns j 0 ≡ (get_or ps j no_process).pid) → Lays v w (alarms (pids ps) (machine u t))) → Lays v w (ticked (machine m t))
+pub loud-lays : {m t u v w : List ℕ} {before : Before} → Laid m t → Procs u (map slept (procs_in m)) (get_or m USED 0) (get_or m NEXT 0) → Noted (procs_in m) before
+    → ((ps : List Process) → Noted ps before → Lays v w (alarms (pids ps) (machine u t))) → Lays v w (ticked (machine m t))
 unfolding ticked
-loud-lays {m} {t} l p n h = rw (lays_back (each-lays l slept p)) at (h (machine m t).procs (live_here l) (noted_here l n).pid)
+loud-lays {m} {t} l p n h = rw (lays_back (each-lays l slept p)) at (h (machine m t).procs (noted_here l n))

@@ -1,5 +1,5 @@
 // One second.
-ghost use Rattle.std.specs.Prelude.{◌≡◌, true, false, List, map, ℕ, ◌-◌, ◌<◌, ◌≤◌, eqb, length, get_or};
+ghost use Rattle.std.specs.Prelude.{◌≡◌, true, List, map, ℕ, ◌-◌, ◌<◌, eqb, length, get_or};
 ghost use Rattle.locks.specs.Lists.{any};
 ghost use Rattle.rules.specs.State.{no_process, with_alarm, pids};
 ghost use Rattle.rules.specs.Clock.{slept, rings, alarms, ticked};
@@ -7,15 +7,17 @@ ghost use Rattle.rules.specs.Outcome.{done, answered};
 ghost use Rattle.rules.specs.Sound.{sound_machine};
 ghost use Rattle.rules.specs.declared.state.Process.{Process};
 ghost use Rattle.places.specs.Places.{place_of, wakes_by};
-ghost use Rattle.places.specs.Places.{PLACES, LIVE, USED, NEXT, Procs, Housed, Laid, Lays, Turns, caller, machine, procs_in};
+ghost use Rattle.places.specs.Places.{PLACES, LIVE, USED, NEXT, Procs, Housed, Turns, procs_in};
 ghost use Rattle.locking.specs.Granted.{Sweeps};
-ghost use Rattle.places.specs.Settled.{Settled};
+ghost use Rattle.places.specs.Settled.{Settled, Show, Whole, asker, shown};
+ghost use Rattle.signals.specs.Noted.{Noted};
 
 use crate::masks::*;
 use crate::signals::*;
-use locks::cells::*;
 use places::answers::*;
+use places::arrays::Arrays;
 use places::fields::*;
+use rules::outcome::AnswerKind;
 
 // A timed sleeper loses a second; whether it wakes.
 fn lose_second(m: &mut Numbers, i: usize) -> bool
@@ -51,17 +53,14 @@ fn second(m: &mut Numbers) -> u32
     requires { Housed m.old }
     ensures { Sweeps (λ p. with_alarm (p.alarm - 1) (slept p)) m.old m.new result }
 {
-    let live = m[LIVE] as usize;
     let mut woken: u32 = 0;
     let mut bit: u32 = 1;
-    let mut i: usize = 0;
-    while i < live {
+    for i in 0..m[LIVE] as usize {
         if lose_second(m, i) {
             woken += bit;
         }
         lose_alarm(m, i);
         bit *= 2;
-        i += 1;
     }
     woken
 }
@@ -70,15 +69,7 @@ fn alarm_due(m: &Numbers) -> bool
     requires { Housed m.now }
     ensures { result ≡ any (λ p. eqb p.alarm 1) (procs_in m.now) }
 {
-    let live = m[LIVE] as usize;
-    let mut i: usize = 0;
-    while i < live {
-        if of(m, i, ALARM) == 1 {
-            return true;
-        }
-        i += 1;
-    }
-    false
+    (0..m[LIVE] as usize).any(|i| of(m, i, ALARM) == 1)
 }
 
 // All timed sleepers lose a second.
@@ -86,62 +77,52 @@ fn pass_second(m: &mut Numbers)
     requires { Housed m.old }
     ensures { Procs m.new (map slept (procs_in m.old)) (get_or m.old USED 0) (get_or m.old NEXT 0) }
 {
-    let live = m[LIVE] as usize;
-    let mut i: usize = 0;
-    while i < live {
-        let up = lose_second(m, i);
-        i += 1;
+    for i in 0..m[LIVE] as usize {
+        lose_second(m, i);
     }
 }
 
 // The alarm of the process at place k loses a second, and sends signal 5 when it reaches 0.
-fn ring(m: &mut Numbers, t: &mut Cells, k: usize)
-    requires { Laid m.old t.old × (k < get_or m.old LIVE 0) × (k ≡ place_of (caller m.old t.old k).pid (pids (machine m.old t.old).procs)) }
-    ensures { Lays m.new t.new (rings (caller m.old t.old k) (machine m.old t.old)) }
+fn ring(arrays: &mut Arrays, k: usize)
+    requires { Whole arrays.old × (k < get_or arrays.old.numbers LIVE 0) × (k ≡ place_of (asker arrays.old k).pid (pids (shown arrays.old).procs)) }
+    ensures { Show arrays.new (rings (asker arrays.old k) (shown arrays.old)) }
 {
-    let alarm = of(m, k, ALARM);
-    lose_alarm(m, k);
+    let alarm = of(&arrays.numbers, k, ALARM);
+    lose_alarm(&mut arrays.numbers, k);
     if alarm == 1 {
-        arrive(m, t, k, 5);
+        arrive(arrays, k, Signal { number: 5 });
     }
 }
 
-// The alarms of the first n of these PIDs, each in the machine that those before it left.
-fn ring_all(m: &mut Numbers, t: &mut Cells, owed: &Before, n: usize)
-    requires { Laid m.old t.old × (n ≤ PLACES) }
-    ensures { (ps : List Process) → length ps ≡ n → ((i : ℕ) → i < length ps → get_or owed.now i 0 ≡ (get_or ps i no_process).pid) → Lays m.new t.new (alarms (pids ps) (machine m.old t.old)) }
+// The alarms of those who lived before, each in the machine that those before it left.
+fn ring_all(arrays: &mut Arrays, before: &Before)
+    requires { Whole arrays.old }
+    ensures { (ps : List Process) → Noted ps before.now → Show arrays.new (alarms (pids ps) (shown arrays.old)) }
 {
-    let mut i: usize = 0;
-    while i < n {
-        let k = find(m, owed[i]);
-        if k < m[LIVE] as usize {
-            ring(m, t, k);
+    for note in before.notes() {
+        if let Some(k) = find(&arrays.numbers, note.pid) {
+            ring(arrays, k);
         }
-        i += 1;
     }
 }
 
-fn loud_second(out: &mut Reply, m: &mut Numbers, t: &mut Cells)
-    requires { Laid m.old t.old × (length out.old ≡ 4) }
-    ensures { Settled (machine m.old t.old) (answered done 0 0 (ticked (machine m.old t.old))) out.new m.new t.new }
+fn loud_second(arrays: &mut Arrays) -> Reply
+    requires { Whole arrays.old }
+    ensures { Settled (shown arrays.old) (answered done 0 0 (ticked (shown arrays.old))) result arrays.new.numbers arrays.new.cells }
 {
-    let live = m[LIVE] as usize;
-    let mut pids = [0u32; PLACES];
-    let mut sleeps = [0u32; PLACES];
-    note(m, &mut pids, &mut sleeps);
-    pass_second(m);
-    ring_all(m, t, &pids, live);
-    settle(out, m, &pids, &sleeps, live, DONE);
+    let before = Before::note(&arrays.numbers);
+    pass_second(&mut arrays.numbers);
+    ring_all(arrays, &before);
+    before.settle(&arrays.numbers, AnswerKind::Done)
 }
 
-pub fn tick(out: &mut Reply, m: &mut Numbers, t: &mut Cells)
-    requires { Laid m.old t.old × (sound_machine (machine m.old t.old) ≡ true) × (length out.old ≡ 4) }
-    ensures { Settled (machine m.old t.old) (answered done 0 0 (ticked (machine m.old t.old))) out.new m.new t.new }
+pub fn tick(arrays: &mut Arrays) -> Reply
+    requires { Whole arrays.old × (sound_machine (shown arrays.old) ≡ true) }
+    ensures { Settled (shown arrays.old) (answered done 0 0 (ticked (shown arrays.old))) result arrays.new.numbers arrays.new.cells }
 {
-    if alarm_due(m) {
-        loud_second(out, m, t);
-        return;
+    if alarm_due(&arrays.numbers) {
+        return loud_second(arrays);
     }
-    let woken = second(m);
-    with_masks(out, DONE, woken, 0);
+    let woken = second(&mut arrays.numbers);
+    with_masks(AnswerKind::Done, woken, 0)
 }

@@ -1,73 +1,66 @@
 // Kill and exit. The caller is the process at place i.
-ghost use Rattle.std.specs.Prelude.{◌≡◌, ◌<◌, ◌≤◌, length, get_or};
+ghost use Rattle.std.specs.Prelude.{◌≡◌, ◌<◌, get_or};
 ghost use Rattle.rules.specs.State.{pids};
 ghost use Rattle.rules.specs.Signals.{arrives};
 ghost use Rattle.rules.specs.Calls.{do_exit, send_kill, outlived};
 ghost use Rattle.rules.specs.declared.state.Event.{Event};
 ghost use Rattle.places.specs.Places.{place_of};
-ghost use Rattle.places.specs.Places.{LIVE, Calls, caller, machine};
-ghost use Rattle.places.specs.Settled.{Settled};
+ghost use Rattle.places.specs.Places.{LIVE};
+ghost use Rattle.places.specs.Settled.{Asking, Settled, Settles, asker, shown};
 
 use crate::endings::*;
 use crate::masks::*;
 use crate::signals::*;
-use locks::cells::*;
-use numbers::refusals::*;
-use places::answers::*;
+use places::answers::Reply;
+use places::arrays::Arrays;
 use places::fields::*;
+use rules::outcome::*;
 
-pub fn exit(out: &mut Reply, m: &mut Numbers, t: &mut Cells, i: usize)
-    requires { Calls m.old t.old i × (length out.old ≡ 4) }
-    ensures { Settled (machine m.old t.old) (do_exit (caller m.old t.old i) (machine m.old t.old)) out.new m.new t.new }
+pub fn exit(arrays: &mut Arrays, i: usize) -> Result<Reply, Refusal>
+    requires { Asking arrays.old i }
+    ensures { Settles (shown arrays.old) (do_exit (asker arrays.old i) (shown arrays.old)) result arrays.new }
 {
-    let pid = of(m, i, PID);
+    let pid = of(&arrays.numbers, i, PID);
     if pid == 1 {
-        refusal(out, BADCALL);
-        return;
+        return Err(Refusal::Badcall);
     }
-    let live = m[LIVE] as usize;
-    let mut pids = [0u32; PLACES];
-    let mut sleeps = [0u32; PLACES];
-    note(m, &mut pids, &mut sleeps);
-    end_process(m, t, pid);
-    settle(out, m, &pids, &sleeps, live, CALLER_ENDED);
+    let before = Before::note(&arrays.numbers);
+    end_process(arrays, pid);
+    Ok(before.settle(&arrays.numbers, AnswerKind::CallerEnded))
 }
 
 // The signal comes to the process at place j; caller ended, or done where it lives on.
-fn send(out: &mut Reply, m: &mut Numbers, t: &mut Cells, i: usize, j: usize, signal: usize)
-    requires { Calls m.old t.old i × (j < get_or m.old LIVE 0) × (j ≡ place_of (caller m.old t.old j).pid (pids (machine m.old t.old).procs)) × ((1 ≤ signal) × (signal ≤ 7)) × (length out.old ≡ 4) }
-    ensures { Settled (machine m.old t.old) (outlived (caller m.old t.old i).pid (arrives signal (caller m.old t.old j).pid (machine m.old t.old))) out.new m.new t.new }
+fn send(arrays: &mut Arrays, i: usize, j: usize, signal: Signal) -> Reply
+    requires { Asking arrays.old i × (j < get_or arrays.old.numbers LIVE 0) × (j ≡ place_of (asker arrays.old j).pid (pids (shown arrays.old).procs)) }
+    ensures { Settled (shown arrays.old) (outlived (asker arrays.old i).pid (arrives signal.number (asker arrays.old j).pid (shown arrays.old))) result arrays.new.numbers arrays.new.cells }
 {
-    let pid = of(m, i, PID);
-    let live = m[LIVE] as usize;
-    let mut pids = [0u32; PLACES];
-    let mut sleeps = [0u32; PLACES];
-    note(m, &mut pids, &mut sleeps);
-    arrive(m, t, j, signal);
-    let mut kind = DONE;
-    if find(m, pid) == m[LIVE] as usize {
-        kind = CALLER_ENDED;
-    }
-    settle(out, m, &pids, &sleeps, live, kind);
+    let pid = of(&arrays.numbers, i, PID);
+    let before = Before::note(&arrays.numbers);
+    arrive(arrays, j, signal);
+    let kind = if find(&arrays.numbers, pid).is_some() {
+        AnswerKind::Done
+    } else {
+        AnswerKind::CallerEnded
+    };
+    before.settle(&arrays.numbers, kind)
 }
 
-pub fn kill(out: &mut Reply, m: &mut Numbers, t: &mut Cells, i: usize, d2: u32, d3: u32)
-    requires { Calls m.old t.old i × (length out.old ≡ 4) }
-    ensures { (e : Event) → e.d2 ≡ d2 → e.d3 ≡ d3 → Settled (machine m.old t.old) (send_kill (caller m.old t.old i) e (machine m.old t.old)) out.new m.new t.new }
+pub fn kill(arrays: &mut Arrays, i: usize, d2: u32, d3: u32) -> Result<Reply, Refusal>
+    requires { Asking arrays.old i }
+    ensures { (e : Event) → e.d2 ≡ d2 → e.d3 ≡ d3 → Settles (shown arrays.old) (send_kill (asker arrays.old i) e (shown arrays.old)) result arrays.new }
 {
-    if d2 < 1 || 7 < d2 || d3 < 2 || 65535 < d3 {
-        refusal(out, BADCALL);
-        return;
+    if !(1..=7).contains(&d2) || !(2..=65535).contains(&d3) {
+        return Err(Refusal::Badcall);
     }
-    let j = find(m, d3);
-    if j == m[LIVE] as usize {
-        refusal(out, NOPROC);
-        return;
+    let Some(j) = find(&arrays.numbers, d3) else {
+        return Err(Refusal::Noproc);
+    };
+    let user = of(&arrays.numbers, i, USER);
+    if user != 0 && user != of(&arrays.numbers, j, USER) {
+        return Err(Refusal::Priv);
     }
-    let user = of(m, i, USER);
-    if user != 0 && user != of(m, j, USER) {
-        refusal(out, PRIV);
-        return;
-    }
-    send(out, m, t, i, j, d2 as usize);
+    let signal = Signal {
+        number: d2 as usize,
+    };
+    Ok(send(arrays, i, j, signal))
 }

@@ -1,68 +1,84 @@
 // Who woke and who ended in an event, by comparison of the processes before and after it.
-ghost use Rattle.std.specs.Prelude.{◌≡◌, List, ℕ, ◌<◌, ◌≤◌, length, get_or};
-ghost use Rattle.rules.specs.State.{Machine};
-ghost use Rattle.rules.specs.Step.{woken_mask, ended_mask};
-ghost use Rattle.places.specs.Places.{PLACES, LIVE, Housed, Lays, procs_in};
-ghost use Rattle.rules.specs.Reply.{four_of};
-ghost use Rattle.places.specs.Settled.{masked};
-ghost use Rattle.signals.specs.Noted.{Noted, up_at};
+ghost use Rattle.std.specs.Prelude.{◌≡◌, List, ℕ, ◌<◌, ◌≤◌, get_or, take};
+ghost use Rattle.places.specs.Places.{PLACES};
 
 use places::answers::*;
 use places::fields::*;
+use rules::outcome::AnswerKind;
+use std::array;
 
-pub(crate) type Before = [u32; PLACES];
+// A process, as noted before an event.
+#[derive(Clone, Copy, Debug)]
+pub(crate) struct Note {
+    pub(crate) pid: u32,
+    sleep: u32,
+}
 
-// The PIDs and the sleeps before an event.
-pub(crate) fn note(m: &Numbers, pids: &mut Before, sleeps: &mut Before)
-    requires { Housed m.now × (length pids.old ≡ PLACES) × (length sleeps.old ≡ PLACES) }
-    ensures { Noted (procs_in m.now) pids.new sleeps.new }
-{
-    let live = m[LIVE] as usize;
-    let mut i: usize = 0;
-    while i < live {
-        pids[i] = of(m, i, PID);
-        sleeps[i] = of(m, i, SLEEP);
-        i += 1;
+impl Note {
+    ghost use Rattle.places.specs.Places.{LIVE, Housed, procs_in};
+    ghost use Rattle.signals.specs.Noted.{up_at};
+
+    // It slept then, and the process at place k is awake.
+    fn is_up(self, m: &Numbers, k: usize) -> bool
+        requires { Housed m.now × (k < get_or m.now LIVE 0) }
+        ensures { result ≡ up_at (procs_in m.now) k self.sleep }
+    {
+        self.sleep != AWAKE && of(m, k, SLEEP) == AWAKE
     }
 }
 
-// The process of that PID, asleep before the event, lives and is awake.
-fn is_up(m: &Numbers, k: usize, sleep: u32) -> bool
-    requires { Housed m.now × (k ≤ get_or m.now LIVE 0) }
-    ensures { result ≡ up_at (procs_in m.now) k sleep }
-{
-    if k == m[LIVE] as usize {
-        return false;
-    }
-    sleep != AWAKE && of(m, k, SLEEP) == AWAKE
-}
-
-// Mask bit i is the process at place i before the event, of whom `live` lived.
-pub(crate) fn settle(
-    out: &mut Reply,
-    m: &Numbers,
-    pids: &Before,
-    sleeps: &Before,
+// The processes before an event, each at its place; `live` of them lived.
+#[derive(Clone, Copy, Debug)]
+pub(crate) struct Before {
+    notes: [Note; PLACES],
     live: usize,
-    kind: u32,
-)
-    requires { Housed m.now × (live ≤ PLACES) × (kind < 4) × (length out.old ≡ 4) }
-    ensures { (s u : Machine) (t : List ℕ) → Noted s.procs pids.now sleeps.now → length s.procs ≡ live → Lays m.now t u → out.new ≡ four_of (masked kind (woken_mask s u) (ended_mask s u)) }
-{
-    let mut woken: u32 = 0;
-    let mut ended: u32 = 0;
-    let mut bit: u32 = 1;
-    let mut i: usize = 0;
-    while i < live {
-        let k = find(m, pids[i]);
-        if k == m[LIVE] as usize {
-            ended += bit;
+    ghost fits: { live ≤ PLACES },
+}
+
+impl Before {
+    ghost use Rattle.rules.specs.State.{Machine};
+    ghost use Rattle.rules.specs.Outcome.{kind_number};
+    ghost use Rattle.rules.specs.Step.{woken_mask, ended_mask};
+    ghost use Rattle.rules.specs.Reply.{four_of};
+    ghost use Rattle.places.specs.Places.{Housed, Lays, procs_in};
+    ghost use Rattle.places.specs.Settled.{masked};
+    ghost use Rattle.signals.specs.Noted.{Noted};
+
+    pub(crate) fn note(m: &Numbers) -> Before
+        requires { Housed m.now }
+        ensures { Noted (procs_in m.now) result }
+    {
+        Before {
+            notes: array::from_fn(|i| Note {
+                pid: of(m, i, PID),
+                sleep: of(m, i, SLEEP),
+            }),
+            live: m[LIVE] as usize,
         }
-        if is_up(m, k, sleeps[i]) {
-            woken += bit;
-        }
-        bit *= 2;
-        i += 1;
     }
-    with_masks(out, kind, woken, ended);
+
+    pub(crate) fn notes(&self) -> &[Note]
+        ensures { result.now ≡ take self.now.live self.now.notes }
+    {
+        &self.notes[..self.live]
+    }
+
+    // Mask bit i is the process that was at place i.
+    pub(crate) fn settle(&self, m: &Numbers, kind: AnswerKind) -> Reply
+        requires { Housed m.now }
+        ensures { (s u : Machine) (t : List ℕ) → Noted s.procs self.now → Lays m.now t u → result ≡ four_of (masked (kind_number kind) (woken_mask s u) (ended_mask s u)) }
+    {
+        let mut woken: u32 = 0;
+        let mut ended: u32 = 0;
+        let mut bit: u32 = 1;
+        for note in self.notes() {
+            match find(m, note.pid) {
+                Some(k) if note.is_up(m, k) => woken += bit,
+                Some(_) => {}
+                None => ended += bit,
+            }
+            bit *= 2;
+        }
+        with_masks(kind, woken, ended)
+    }
 }

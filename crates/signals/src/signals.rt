@@ -3,12 +3,19 @@ ghost use Rattle.std.specs.Prelude.{◌≡◌, ◌<◌, ◌≤◌, get_or};
 ghost use Rattle.rules.specs.State.{pids};
 ghost use Rattle.rules.specs.Signals.{roused, trapped, arrives};
 ghost use Rattle.places.specs.Places.{place_of};
-ghost use Rattle.places.specs.Places.{PLACES, LIVE, Laid, Lays, Turns, caller, machine};
+ghost use Rattle.places.specs.Places.{PLACES, LIVE, Turns};
+ghost use Rattle.places.specs.Settled.{Show, Whole, asker, shown};
 
 use crate::endings::*;
-use locks::cells::*;
 use locks::rows::Part;
+use places::arrays::Arrays;
 use places::fields::*;
+
+#[derive(Clone, Copy, Debug)]
+pub(crate) struct Signal {
+    pub(crate) number: usize,
+    ghost known: { (1 ≤ number) × (number ≤ 7) },
+}
 
 fn rouse(m: &mut Numbers, i: usize)
     requires { i < PLACES }
@@ -20,11 +27,11 @@ fn rouse(m: &mut Numbers, i: usize)
     }
 }
 
-fn trap(m: &mut Numbers, i: usize, signal: usize, a: u32)
-    requires { (i < PLACES) × ((1 ≤ signal) × (signal ≤ 7)) }
-    ensures { Turns (trapped signal a) m.old i m.new }
+fn trap(m: &mut Numbers, i: usize, signal: Signal, a: u32)
+    requires { i < PLACES }
+    ensures { Turns (trapped signal.number a) m.old i m.new }
 {
-    let k = signal - 1;
+    let k = signal.number - 1;
     let pending = of(m, i, PENDING);
     set(m, i, PENDING, pending | (1u32 << k));
     set(m, i, TRAPS + k, a);
@@ -33,19 +40,19 @@ fn trap(m: &mut Numbers, i: usize, signal: usize, a: u32)
 }
 
 // The signal arrives at the process at place i, the first of its PID.
-pub(crate) fn arrive(m: &mut Numbers, t: &mut Cells, i: usize, signal: usize)
-    requires { Laid m.old t.old × (i < get_or m.old LIVE 0) × (i ≡ place_of (caller m.old t.old i).pid (pids (machine m.old t.old).procs)) × ((1 ≤ signal) × (signal ≤ 7)) }
-    ensures { Lays m.new t.new (arrives signal (caller m.old t.old i).pid (machine m.old t.old)) }
+pub(crate) fn arrive(arrays: &mut Arrays, i: usize, signal: Signal)
+    requires { Whole arrays.old × (i < get_or arrays.old.numbers LIVE 0) × (i ≡ place_of (asker arrays.old i).pid (pids (shown arrays.old).procs)) }
+    ensures { Show arrays.new (arrives signal.number (asker arrays.old i).pid (shown arrays.old)) }
 {
-    let a = of(m, i, REACTIONS + signal - 1);
+    let a = of(&arrays.numbers, i, REACTIONS + signal.number - 1);
     if a == IGNORE {
         return;
     }
-    let pid = of(m, i, PID);
+    let pid = of(&arrays.numbers, i, PID);
     if a == ABORT {
-        end_process(m, t, pid);
+        end_process(arrays, pid);
         return;
     }
-    trap(m, i, signal, a);
-    lose_rows(m, t, pid, Part::Waiting);
+    trap(&mut arrays.numbers, i, signal, a);
+    lose_rows(arrays, pid, Part::Waiting);
 }

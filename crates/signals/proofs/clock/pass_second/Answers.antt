@@ -7,7 +7,7 @@ loop-i-init c = passing slept c.requires.procs
 
 pub loop-i-preserved : goal.loop-i-preserved
 loop-i-preserved c =
-    let y = c.lose_second-up.ensures in
+    let y = c.lose_second.ensures in
     pass-turn c.loop-i.invariant c.loop-i-test.true y.0 y.1
 
 pub returns : goal.returns

@@ -1,12 +1,11 @@
 use Rattle.signals.proofs.Ringing.{less-first, less-laid, less-stands, ring-last, ring-other}
-use borrow.Author.Rules.{rules}
 use Rattle.signals.proofs.clock.ring.Goals as goal
 
 pub arrive-requires : goal.arrive-requires
 arrive-requires c =
     let p = c.requires in
     let e = c.lose_alarm.ensures in
-    (less-laid p.0 p.1 p.2 e, less-stands p.0 p.1 p.2 e, less-first p.0 p.1 p.2 e, (search rules, search rules))
+    (less-laid p.0 p.1 p.2 e, less-stands p.0 p.1 p.2 e, less-first p.0 p.1 p.2 e)
 
 pub returns-then-alarm-eq1 : goal.returns-then-alarm-eq1
 returns-then-alarm-eq1 c =

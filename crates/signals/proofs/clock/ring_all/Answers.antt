@@ -1,26 +1,38 @@
+use Prim.Native.Nat.{◌<◌}
+use native.Mathlib.Omega.{arith}
+use mathlib.Core.Path.{refl}
 use Rattle.places.proofs.Laying.{housed}
+use Rattle.signals.proofs.Comparing.{notes-get, notes-live}
 use Rattle.signals.proofs.Ringing.{rang, rang-all, rang-first, rang-gone, ringing}
 use Rattle.signals.proofs.clock.ring_all.Goals as goal
-use Rattle.signals.proofs.clock.ring_all.Goals.{else-k-m, then-k-m}
+use Rattle.signals.proofs.clock.ring_all.Goals.{in-Some, in_default}
 
-pub loop-i-init : goal.loop-i-init
-loop-i-init c = ringing _ c.requires.0 c.requires.1
+pub loop-note-init : goal.loop-note-init
+loop-note-init c = ringing _ c.requires
 
-pub find-k-requires : goal.find-k-requires
-find-k-requires c = housed c.loop-i.invariant.house.lays.procs
+pub find-requires : goal.find-requires
+find-requires c = housed c.loop-note.invariant.house.lays.procs
 
 pub ring-requires : goal.ring-requires
 ring-requires c =
-    let v = c.loop-i.invariant in
-    let a = c.if-k-m.true in
-    (v.house, a, rang-first v c.loop-i-test.true c.find-k.ensures.1 a)
+    let v = c.loop-note.invariant in
+    let n = notes-live c.args.before.now c.notes-note-items.ensures (omega arith) in
+    let l : c.loop-note.note-index < c.args.before.now.live = omega arith in
+    let k = c.in-Some.ensures in
+    (v.house, k.0, rang-first v l (notes-get c.args.before.now c.notes-note-items.ensures l) k.1 k.0)
 
-pub loop-i-preserved : goal.loop-i-preserved
-loop-i-preserved c =
-    let v = c.loop-i.invariant in
-    let l = c.loop-i-test.true in
-    let k = c.find-k.ensures.1 in
-    elim c.if-k-m.branch [ then-k-m w ↦ rw (w.m-is, w.t-is) (rang v l k w.ring.ensures) | else-k-m w ↦ rw (w.m-is, w.t-is) (rang-gone v l k w.if-k-m.false) ]
+pub loop-note-preserved : goal.loop-note-preserved
+loop-note-preserved c =
+    let v = c.loop-note.invariant in
+    let n = notes-live c.args.before.now c.notes-note-items.ensures (omega arith) in
+    let l : c.loop-note.note-index < c.args.before.now.live = omega arith in
+    let q = notes-get c.args.before.now c.notes-note-items.ensures l in
+    elim c.match-find.branch [
+      | in-Some w ↦ rw w.arrays-is (rang v l q w.in-Some.ensures.1 w.ring.ensures)
+      | in_default w ↦ rw w.arrays-is (rang-gone v l q w.in_default.ensures refl)
+    ]
 
 pub returns : goal.returns
-returns c = rang-all c.loop-i.invariant c.loop-i-test.false
+returns c =
+    let n = notes-live c.args.before.now c.notes-note-items.ensures (omega arith) in
+    rang-all c.loop-note.invariant (omega arith)

@@ -1,5 +1,5 @@
 use mathlib.Core.Path.{refl}
-use Rattle.places.specs.Places.{machine}
+use Rattle.places.specs.Settled.{shown}
 use Rattle.places.proofs.Laying.{housed}
 use Rattle.signals.proofs.Losing.{own_row, all-other, ended}
 use Rattle.signals.proofs.endings.end_process.Goals as goal
@@ -13,4 +13,4 @@ remove-requires c = housed (c.lose_rows.ensures (own_row c.args.pid) refl).procs
 pub returns : goal.returns
 returns c =
     let a = c.args in
-    ended a.pid (machine a.m.now a.t.now) (c.lose_rows.ensures (own_row a.pid) refl) c.remove.ensures
+    ended a.pid (shown a.arrays.now) (c.lose_rows.ensures (own_row a.pid) refl) c.remove.ensures

@@ -1,14 +1,13 @@
+use Prim.Native.Nat.{◌*◌}
 use native.Mathlib.Omega.{arith}
-use Rattle.signals.proofs.Moving.{moved-long, removed}
+use mathlib.Core.Path.{ap, ◌∙◌}
+use lib.ListN.{replicate}
+use borrow.Rule.Slice.PartMut.{mid_len}
+use Rattle.places.specs.Places.{PLACE}
+use Rattle.signals.proofs.Moving.{removed}
 use Rattle.signals.proofs.endings.remove.Goals as goal
-
-pub clear_places-requires : goal.clear_places-requires
-clear_places-requires c = let x = c.move_up-k.ensures in (x.fewer, c.requires.live, moved-long x)
-
-pub overflow_cast-m : goal.overflow_cast-m
-overflow_cast-m c = record { fits = omega (arith, c.move_up-k.ensures.fewer, c.requires.live) }
 
 pub returns : goal.returns
 returns c =
-    let x = c.move_up-k.ensures in
-    removed c.requires x (c.clear_places.ensures x.ys _ x.places)
+    removed c.requires c.move_up-k.ensures
+    (c.fill.ensures.after (λ y e. e) ∙ ap (λ n. replicate n 0) (mid_len (c.move_up-k.result * PLACE) _ c.move_up-k.new.m (omega (arith, c.requires.live))))

@@ -5,12 +5,12 @@ use Rattle.signals.proofs.signals.arrive.Goals as goal
 pub returns-then-a-eq-IGNORE : goal.returns-then-a-eq-IGNORE
 returns-then-a-eq-IGNORE c =
     let h = c.requires in
-    arrive-ignored h.0 h.1 h.2 h.3 c.of-a.ensures c.if-a-eq-IGNORE.true
+    arrive-ignored h.0 h.1 h.2 c.args.signal.known c.of-a.ensures c.if-a-eq-IGNORE.true
 
 pub returns-then-a-eq-ABORT : goal.returns-then-a-eq-ABORT
 returns-then-a-eq-ABORT c =
     let h = c.requires in
-    arrive-ends h.0 h.1 h.2 h.3 c.of-a.ensures c.if-a-eq-IGNORE.false c.of-pid.ensures c.if-a-eq-ABORT.true c.end_process.ensures
+    arrive-ends h.0 h.1 h.2 c.args.signal.known c.of-a.ensures c.if-a-eq-IGNORE.false c.of-pid.ensures c.if-a-eq-ABORT.true c.end_process.ensures
 
 pub lose_rows-requires : goal.lose_rows-requires
 lose_rows-requires c =
@@ -20,4 +20,4 @@ lose_rows-requires c =
 pub returns : goal.returns
 returns c =
     let h = c.requires in
-    arrive-traps h.0 h.1 h.2 h.3 c.of-a.ensures c.if-a-eq-IGNORE.false c.if-a-eq-ABORT.false c.trap.ensures c.of-pid.ensures c.lose_rows.ensures
+    arrive-traps h.0 h.1 h.2 c.args.signal.known c.of-a.ensures c.if-a-eq-IGNORE.false c.if-a-eq-ABORT.false c.trap.ensures c.of-pid.ensures c.lose_rows.ensures
