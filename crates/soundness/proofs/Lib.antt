@@ -1,6 +1,4 @@
-pub mod Loops
-pub mod Laws
-pub mod Words
-pub mod Meeting
+pub mod Zeros
+pub mod Lists
 pub mod Waiting
 pub mod Whole

@@ -1,56 +1,38 @@
--- `soundness::rows::waiters_of` meets its contract: the first i rows are watched. Assumes nothing.
-use borrow.Author.Rules.{rules}
-use native.Mathlib.Omega.{arith}
-use mathlib.Core.Path.{sym, ◌∙◌}
-use Rattle.locks.specs.Rows.{rows_of}
-use Rattle.locks.proofs.Bytes.{told, byte_at}
-use Rattle.soundness.proofs.Waiting.{watched-none, refused, not-fit, twin-found, new-first, met-twin, met-waits, met_holds, watched-waits, watched-holds, watched-all}
-use mathlib.Core.Path.{ap}
-use mathlib.Core.Bool.{not}
+-- `soundness::rows::waiters_of` meets its contract: the first i rows are laid out and told. Assumes nothing.
+use Rattle.std.proofs.Common.{◌∙◌, arith, add-one, get_or, take, sym}
+use mathlib.Core.Bool.{and-false}
+use Rattle.std.proofs.Math.Seq.{take-suc, length-take-le}
+use Rattle.locks.specs.declared.rows.Row.{Row}
+use Rattle.locks.specs.Cells.{Tells}
+use Rattle.locks.proofs.Telling.{rows-shows}
+use Rattle.soundness.proofs.Waiting.{blank, watched_none, watched-holds, watched-waits, stands-held, not-apart}
 use Rattle.soundness.proofs.rows.waiters_of.Goals as goal
-use Rattle.soundness.proofs.rows.waiters_of.Goals.{then-seen-first+else-m-eq2+then-m-eq1, then-seen-first+else-m-eq2+else-m-eq1, else-seen-first}
+use Rattle.soundness.proofs.rows.waiters_of.Goals.{in-Waits, in-Free}
 
 pub loop-i-init : goal.loop-i-init
-loop-i-init c = watched-none _ _ (search rules) c.requires
-
-pub fit_row-requires : goal.fit_row-requires
-fit_row-requires c = c.words_of-w.ensures
-
-pub returns-then-not-fit_row : goal.returns-then-not-fit_row
-unfolding rows_of
-returns-then-not-fit_row c =
-    rw c.found.ensures (refused _ (not-fit c.loop-i.invariant c.loop-i-test.true (sym c.fit_row.ensures ∙ c.if-not-fit_row.true)))
-
-pub overflow_cast-first : goal.overflow_cast-first
-overflow_cast-first c = let h = byte_at c.words_of-w.ensures 0 in record { fits = omega (arith, h) }
-
-pub bounds-seen-first : goal.bounds-seen-first
-bounds-seen-first c = byte_at c.words_of-w.ensures 0
-
-pub returns-then-m-eq2 : goal.returns-then-m-eq2
-unfolding rows_of
-returns-then-m-eq2 c =
-    let p = c.loop-i.invariant in
-    let t = told c.fit_row.ensures (ap not c.if-not-fit_row.false) c.words_of-w.ensures in
-    rw c.found-then-m-eq2.ensures (refused _ (twin-found p c.loop-i-test.true (met-twin _ _ (c.meets-m.ensures _ p.noted t) c.if-m-eq2.true)))
-
-pub bounds-seen-first-in-loop-i : goal.bounds-seen-first-in-loop-i
-bounds-seen-first-in-loop-i c = byte_at c.words_of-w.ensures 0
+loop-i-init c = watched_none
 
 pub loop-i-preserved : goal.loop-i-preserved
 loop-i-preserved c =
+    let i = c.loop-i.i in
+    let rows = c.args.rows.now in
+    let r : Row = get_or rows i blank in
+    let n = length-take-le i rows (omega arith) in
     let p = c.loop-i.invariant in
-    let l = c.loop-i-test.true in
-    let t = told c.fit_row.ensures (ap not c.if-not-fit_row.false) c.words_of-w.ensures in
-    let m = byte_at t.words 0 in
-    elim c.if-seen-first.branch [
-      | then-seen-first+else-m-eq2+then-m-eq1 w ↦
-          rw (w.owners-is, w.count-is) (watched-waits p l t m (met-waits _ _ (w.meets-m.ensures _ p.noted t) w.if-m-eq2.false w.if-m-eq1.true))
-      | then-seen-first+else-m-eq2+else-m-eq1 w ↦
-          rw (w.owners-is, w.count-is) (watched-holds p l t m (met_holds _ _ (w.meets-m.ensures _ p.noted t) w.if-m-eq2.false w.if-m-eq1.false))
-      | else-seen-first w ↦ rw (w.owners-is, w.count-is) (watched-holds p l t m (new-first p l t.fit m w.if-seen-first.false))
-    ]
+    let t : Tells c.in_ok-c.c r = c.in_ok-c.ensures.1 in
+    let s = c.stands.ensures (take i rows) r (rows-shows p.laid) n t in
+    let f = c.in_ok-c.ensures.0 in
+    let a = c.append.ensures (take i rows) r p.laid n t in
+    rw (add-one i, take-suc rows i blank (omega arith))
+    (elim c.match-stands.branch [
+      | in-Waits w ↦ rw w.waiters-is (watched-waits p r f a n (omega arith) (sym s ∙ w.in-Waits.is))
+      | in-Free w ↦ rw w.waiters-is (watched-holds p r f a (sym s ∙ w.in-Free.is))
+    ])
 
-pub returns : goal.returns
-unfolding rows_of
-returns c = rw c.found-2.ensures (watched-all c.loop-i.invariant c.loop-i-test.false)
+pub returns-in-Held : goal.returns-in-Held
+returns-in-Held c =
+    let i = c.loop-i.i in
+    let rows = c.args.rows.now in
+    let n = length-take-le i rows (omega arith) in
+    let s = c.stands.ensures (take i rows) (get_or rows i blank) (rows-shows c.loop-i.invariant.laid) n c.in_ok-c.ensures.1 in
+    rw (not-apart rows i blank (omega arith) (stands-held (take i rows) (get_or rows i blank) (sym s ∙ c.in-Held.is)), and-false)

@@ -1,7 +1,10 @@
 -- `soundness::rows::zero_row` meets its contract. Assumes nothing.
+use Rattle.std.proofs.Common.{◌∙◌}
+use mathlib.Core.Bool.{and_assoc}
 use Rattle.locks.specs.Rows.{zero_row}
+use Rattle.soundness.proofs.Zeros.{equal_zeros, is_false}
 use Rattle.soundness.proofs.rows.zero_row.Goals as goal
 
 pub returns : goal.returns
 unfolding zero_row
-returns c = let w = c.words_of-w.ensures in rw (w.long, c.ends_at.ensures _ w)
+returns c = let r = c.args.r.now in c.eq.ensures ∙ rw (equal_zeros 16 r.bytes, is_false r.shared) (simp and_assoc)

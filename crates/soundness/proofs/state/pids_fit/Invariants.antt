@@ -1,10 +1,8 @@
 -- `soundness::state::pids_fit` meets its contract: the PIDs before place i ascend. Assumes nothing.
-use Prim.Native.Nat.{◌-◌}
-use Rattle.soundness.proofs.Laws.{Rising}
+use Rattle.std.proofs.Common.{◌≡◌}
+use Rattle.std.proofs.Math.ListN.{drop}
+use Rattle.rules.specs.Sound.{ascend}
 use Rattle.soundness.proofs.state.pids_fit.Given as goal
 
-abbrev pub invariant-loop-i : goal.invariant-loop-i
-invariant-loop-i l = Rising l.ns l.n l.next l.low l.i
-
-abbrev pub decreases-loop-i : goal.decreases-loop-i
-decreases-loop-i l = l.n - l.i
+abbrev pub invariant-loop-n : goal.invariant-loop-n
+invariant-loop-n l = ascend 1 l.ns l.next ≡ ascend l.low (drop l.n-index l.ns) l.next
