@@ -31,7 +31,7 @@ pub const WORDS: usize = 132;
 
 pub type Cells = [u64; WORDS];
 
-#[derive(Clone, Copy)]
+#[derive(Clone, Copy, Debug, PartialEq, Eq)]
 pub struct Cell {
     pub owner: u64,
     pub kind: u64,

@@ -3,7 +3,7 @@ ghost use Rattle.std.specs.Prelude.{◌≡◌, [], ◌∷◌};
 ghost use Rattle.locks.specs.Words.{value, Worded};
 
 // Sixteen bytes as two numbers: the first eight and the last, the first of each the lowest.
-#[derive(Clone, Copy)]
+#[derive(Clone, Copy, Debug, PartialEq, Eq)]
 pub struct Words {
     pub low: u64,
     pub high: u64,
