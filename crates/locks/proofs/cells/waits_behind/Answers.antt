@@ -1,7 +1,7 @@
 -- `cells::waits_behind` meets its contract: none of the first i rows conflicts with it. Assumes nothing.
 use Rattle.std.proofs.Common.{sym, ◌∙◌, arith}
 use Rattle.locks.specs.Rows.{no_row, conflict, waits}
-use Rattle.locks.proofs.Loops.{none-next, found, none}
+use Rattle.locks.proofs.Loops.{found, none}
 use Rattle.locks.proofs.Telling.{walk, tells_row}
 use Rattle.locks.proofs.cells.waits_behind.Goals as goal
 
@@ -11,12 +11,6 @@ returns-then-conflicts c =
     let i = c.loop-i.i in
     λ rows q l h x.
     sym (found (walk rows {i = i} h (omega arith)) (conflict q) no_row (omega arith) (sym (c.conflicts.ensures q _ x (tells_row l i c.cell_at.ensures (omega arith))) ∙ c.if-conflicts.true))
-
-pub loop-i-preserved : goal.loop-i-preserved
-loop-i-preserved c =
-    let i = c.loop-i.i in
-    λ rows q l h x.
-    none-next (walk rows h (omega arith)) (conflict q) no_row (omega arith) (c.loop-i.invariant rows q l h x) (sym (c.conflicts.ensures q _ x (tells_row l i c.cell_at.ensures (omega arith))) ∙ c.if-conflicts.false)
 
 pub returns : goal.returns
 unfolding waits
