@@ -9,7 +9,7 @@ use mathlib.Core.List.{List, [], ◌∷◌}
 use lib.Dec.{eqb}
 use lib.ListN.{length, get_or, set}
 use lib.Seq.{get_or-set_same, get_or-set_other}
-use borrow.Author.Count.{below_none, below_more}
+use borrow.Author.Count.{below_more}
 use borrow.Author.Tests.{eqb-true, eqb-false}
 use Rattle.chains.specs.Chains.{Chain, one, more}
 use Rattle.locks.specs.Cells.{CELLS}
@@ -86,9 +86,6 @@ pub record Toured (t : List ℕ) (last : ℕ) (To : ℕ → ℕ → Type 0) (n :
   pub opens : (v : ℕ) → v < n → (q : ℕ) → To v q → Passed t last r q
 
 module _ {t : List ℕ} {last : ℕ} {To : ℕ → ℕ → Type 0} where
-  pub tour-start : {o : List Bool} → length o ≡ CELLS → Toured t last To 0 o o
-  tour-start s = record { grown = grown-refl s; opens = below_none _ }
-
   -- the first n lead nowhere
   pub tour-from : {n : ℕ} {o : List Bool} → length o ≡ CELLS → ((v : ℕ) → v < n → (q : ℕ) → To v q → ⊥) → Toured t last To n o o
   tour-from s none = record { grown = grown-refl s; opens = λ v l q h. absurd (none v l q h) }

@@ -1,5 +1,5 @@
 -- Rows that an array shows, and their links. Assumes nothing.
-use Prim.Native.Nat.{ℕ, zero, suc, ◌<◌, ◌≤◌}
+use Prim.Native.Nat.{ℕ, zero, suc, ◌+◌, ◌<◌, ◌≤◌}
 use native.Mathlib.Omega.{arith}
 use mathlib.Core.Path.{◌≡◌, refl, sym, ap, subst, ◌∙◌}
 use mathlib.Core.Bool.{Bool, true, false, true≢false, false≢true}
@@ -16,7 +16,7 @@ use Rattle.chains.proofs.Chains.{chain-map}
 use Rattle.locks.specs.Cells.{CELLS, Shows, Tells, cell_at}
 use Rattle.chains.specs.Search.{owner_at, Shown, Leads, Searched}
 use Rattle.locks.specs.declared.cells.Cell.{Cell}
-use Rattle.chains.proofs.Opened.{no_way}
+use Rattle.chains.proofs.Opened.{Toured, tour-on, tour-past, no_way}
 
 pub same-owner : {x y : Cell} → x ≡ y → x.owner ≡ y.owner
 same-owner e = ap (λ (c : Cell). c.owner) e
@@ -76,6 +76,22 @@ module _ {t : List ℕ} {last : ℕ} where
   pair-to d =
       let l = d.lead in
       rw (← d.other) (shown-owner l.shown l.link.other (omega (arith, l.link.ahead, l.link.stands, l.shown.long)) ∙ l.link.to)
+
+  -- a loop over rows passes row w: all its pairs were passed, or it is another's
+  pub row_done : {p w n : ℕ} {o u v r : List Bool} → Toured t last (RowLeads t last p) w o u → Toured t last (PairLeads t last p w) n u v → w ≤ n → r ≡ v → Toured t last (RowLeads t last p) (w + 1) o r
+  row_done so_far pairs l e =
+      tour-on so_far pairs.grown (λ q d. pairs.opens d.lead.link.other (omega (arith, d.lead.link.ahead, d.row)) q (record { lead = d.lead; row = d.row; other = refl })) e
+
+  pub row_past : {p w a b : ℕ} {o u r : List Bool} → Toured t last (RowLeads t last p) w o u → a ≡ owner_at t w → b ≡ p → (a ≡ b → ⊥) → r ≡ u → Toured t last (RowLeads t last p) (w + 1) o r
+  row_past so_far x y d e = tour-past so_far (λ q l. d (x ∙ row_from l ∙ sym y)) e
+
+  -- all rows up to the last are passed
+  pub searched : {p n : ℕ} {b : Bool} {o r : List Bool} → b ≡ false → Toured t last (RowLeads t last p) n o r → last < n → Searched t last p (Leads t last p) o b r
+  searched none so_far l = record {
+    back = λ e. absurd (false≢true (sym none ∙ e));
+    grown = λ _. so_far.grown;
+    had = λ _ q d. so_far.opens d.link.row (omega (arith, d.link.stands, d.shown.long)) q (record { lead = d; row = refl });
+  }
 
 -- ---- the answer
 

@@ -14,12 +14,11 @@ fn first_row(t: &Cells, a: usize) -> usize
     ensures { First t.now a result }
 {
     let p = t[a * CELL + OWNER];
-    let mut i: usize = 0;
-    while i < a {
+    // (0..a).find(..).unwrap_or(a) is proved too, and leads_back took 3 to 5 % longer with it.
+    for i in 0..a {
         if t[i * CELL + OWNER] == p {
             return i;
         }
-        i += 1;
     }
     a
 }
@@ -27,47 +26,31 @@ fn first_row(t: &Cells, a: usize) -> usize
 // From the owner of row i to its own rows, the first of which is `from`, each held against the rows ahead of it. The caller's new
 // row is the last: the first pair whose row ahead is the caller's closes the chain, and the search stops there.
 #[cycle(owner_to_row_row_to_owners)]
-fn owner_to_row<'a, 'b>(
-    t: &'a Cells,
-    last: usize,
-    i: usize,
-    from: usize,
-    opened: &'b mut [bool; CELLS],
-) -> bool
+fn owner_to_row(t: &Cells, last: usize, i: usize, from: usize, opened: &mut [bool; CELLS]) -> bool
     requires { Ready last i opened.old × First t.now i from }
     ensures { Searched t.now last (owner_at t.now i) (Leads t.now last (owner_at t.now i)) opened.old result opened.new }
 {
     let p = cell_at(t, i).owner;
     let c = cell_at(t, last).owner;
     let mut found = false;
-    let mut w = from;
-    'pairs: while w <= last {
+    'pairs: for w in from..=last {
         let x = cell_at(t, w);
         if x.owner == p {
-            let mut a: usize = 0;
-            while a < w {
+            for a in 0..w {
                 let y = cell_at(t, a);
-                if conflicts(x, y) {
-                    if y.owner == c {
-                        found = true;
-                        break 'pairs;
-                    }
-                    if row_to_owners(t, last, a, opened) {
-                        found = true;
-                        break 'pairs;
-                    }
+                if conflicts(x, y) && (y.owner == c || row_to_owners(t, last, a, opened)) {
+                    found = true;
+                    break 'pairs;
                 }
-                a += 1;
             }
         }
-        w += 1;
     }
     found
 }
 
 // From row a, which is in the way of a row that the search came to, to its owner, and on if that is not opened yet.
 #[cycle(owner_to_row_row_to_owners)]
-fn row_to_owners<'a, 'b>(t: &'a Cells, last: usize, a: usize, opened: &'b mut [bool; CELLS]) -> bool
+fn row_to_owners(t: &Cells, last: usize, a: usize, opened: &mut [bool; CELLS]) -> bool
     requires { Ready last a opened.old × (owner_at t.now a ≡ owner_at t.now last → ⊥) }
     ensures { Searched t.now last (owner_at t.now a) (◌≡◌ (owner_at t.now a)) opened.old result opened.new }
 {

@@ -1,13 +1,14 @@
 -- Sixteen bytes as two numbers, and rows told by them. Assumes nothing.
-use Prim.Native.Nat.{ℕ, zero, suc, ◌+◌, ◌-◌, ◌≤◌, ◌<◌}
+use Prim.Native.Nat.{ℕ, zero, suc, ◌+◌, ◌-◌, ◌*◌, ◌/◌, ◌%◌, ◌≤◌, ◌<◌}
 use native.Mathlib.Omega.{arith}
 use mathlib.Core.Path.{◌≡◌, refl, sym, ap, ◌∙◌}
 use mathlib.Core.Bool.{Bool, true, false, not}
 use mathlib.Core.List.{List, [], ◌∷◌}
 use lib.Dec.{eqb, leb}
 use lib.ListN.{length, get_or, take, drop, take-append-drop, length-drop}
-use lib.Seq.{drop-cons, get_or-drop, length-take-le, ext_get_or}
-use borrow.Author.Tests.{eq-eqb, eqb-true, leb-true, leb-false, ltb-true, not-false}
+use lib.Seq.{drop-cons, get_or-drop, length-take-le, ext_get_or, take_all}
+use borrow.Author.Tests.{eq-eqb, eqb-true, leb-true, leb-false, ltb-true, lt-ltb, not-false}
+use Rattle.std.specs.Int.{w128, from_le_bytes}
 use Rattle.locks.specs.Lists.{all, between, is_zero, agree}
 use Rattle.locks.specs.Rows.{same_sequence}
 use Rattle.locks.specs.Words.{is_byte, value, Worded, fit_row, Told, Note}
@@ -101,3 +102,20 @@ bytes-from (suc n) i x h = rw (drop-cons x i 0 (omega arith), bytes-from n (suc 
 pub all-at : (f : ℕ → Bool) (xs : List ℕ) → ((i : ℕ) → f (get_or xs i 0) ≡ true) → all f xs ≡ true
 all-at f [] h = refl
 all-at f (x ∷ xs) h = and-join (f x) (all f xs) (h 0) (all-at f xs (λ i. h (suc i)))
+
+split_word : (n l h : ℕ) → n ≡ l + 18446744073709551616 * h → l < 18446744073709551616 → (n % 18446744073709551616 ≡ l) × (n / 18446744073709551616 ≡ h)
+split_word n l h e s = (omega arith, omega arith)
+
+-- sixteen bytes as one number, parted in the middle
+pub worded : (x : List ℕ) (n : ℕ) → length x ≡ 16 → ((i : ℕ) → get_or x i 0 < 256) → n ≡ from_le_bytes w128 x
+    → Worded x (record { low = n % 18446744073709551616; high = n / 18446744073709551616 })
+worded x n long small e =
+    let low = value (bytes_from 8 0 x) in
+    let high = value (bytes_from 8 8 x) in
+    let s = split_word n low high (omega (arith, e)) (omega (arith, small 0, small 1, small 2, small 3, small 4, small 5, small 6, small 7)) in
+    record {
+      long = long;
+      small = all-at is_byte x (λ i. lt-ltb (get_or x i 0) 256 (small i));
+      first = s.0 ∙ ap value (bytes-from 8 0 x (omega arith));
+      last = s.1 ∙ ap value (bytes-from 8 8 x (omega arith) ∙ take_all 8 (drop 8 x) (rw (length-drop 8 x) (omega arith)));
+    }

@@ -1,11 +1,12 @@
 -- Rows that go from their array: those that stay move up, and what lies behind them is cleared. Assumes nothing.
-use Prim.Native.Nat.{ℕ, ◌+◌, ◌-◌, ◌≤◌, ◌<◌}
+use Prim.Native.Nat.{ℕ, zero, suc, ◌+◌, ◌-◌, ◌*◌, ◌≤◌, ◌<◌}
 use native.Mathlib.Omega.{arith}
 use mathlib.Core.Path.{◌≡◌, refl, sym, ap, ◌∙◌}
 use mathlib.Core.Bool.{Bool, true, false, not, and-false}
-use mathlib.Core.List.{List, [], ◌∷◌, ◌++◌}
+use mathlib.Core.List.{List, [], ◌∷◌, ◌++◌, append-nil}
 use lib.ListN.{length, get_or, take, drop, set, replicate}
-use lib.Seq.{take_all, get_or-take, set-get_or, drop-append_seam}
+use lib.Seq.{take_all, get_or-take, set-get_or, drop-append_seam, drop-drop}
+use borrow.Rule.Slice.PartMut.{put_mid}
 use borrow.Author.Tests.{eq-eqb, ne_eqb, eqb-true, not-false}
 use Rattle.locks.specs.Lists.{any, all, sift, padded}
 use Rattle.locks.specs.Rows.{no_row, owns, twin, same_sequence, conflict, waits, waits_of, goes}
@@ -17,12 +18,13 @@ use Rattle.locks.proofs.Lists.{all-at}
 use Rattle.locks.proofs.Loops.{sifted-more, sifted-same}
 use Rattle.locks.proofs.Fewer.{fewer-sift, fewer-take, fewer-all}
 use Rattle.locks.specs.Pieces.{joined}
-use Rattle.locks.specs.Cells.{CELLS, Names, Rows, Shows, Tells, cell_at, cell_set, four, laid_cells, no_cell, staying, whole_row, words}
-use Rattle.locks.specs.Gaps.{Closed, Trails, unused}
+use Rattle.locks.specs.Cells.{CELL, CELLS, Names, Rows, Shows, Tells, cell_at, cell_set, four, laid_cells, staying, whole_row, words}
+use Rattle.locks.specs.Gaps.{Closed, Trails}
 use Rattle.locks.specs.declared.cells.Cell.{Cell}
-use Rattle.locks.proofs.Closing.{Closes, closing, next-goes, next-is, next-stays, unused-all, unused-more}
+use Rattle.locks.proofs.Closing.{Closes, closing, next-goes, next-is, next-stays, unused-all}
 use Rattle.locks.proofs.Padding.{padded-get, padded-length}
-use Rattle.locks.proofs.Telling.{Cells, cells, cells-get, cells-set, walk}
+use Rattle.locks.proofs.Pieces.{joined-append, joined-take, joined-drop}
+use Rattle.locks.proofs.Telling.{wide_row, Cells, cells, cells-get, cells-set, walk}
 
 -- ---- rows that stay, moved up
 
@@ -164,10 +166,22 @@ closed part r {rows = rows} {i = i} l g e =
 
 -- ---- what lies behind is cleared
 
-pub rest_more : {t : List ℕ} (k i : ℕ) (ys : List Row) → Cells t (unused no_row k i ys) → length ys ≡ CELLS → k ≤ i → i < CELLS → Cells (cell_set t i no_cell) (unused no_row k (i + 1) ys)
+zero_words : (n : ℕ) → replicate (n * CELL) 0 ≡ joined words (replicate n no_row)
 unfolding words no_row
-rest_more k i ys c n b l = rw (unused-more no_row k ys i b (omega arith)) at (cells-set c i l no_cell no_row refl)
+zero_words zero = refl
+zero_words (suc n) = let e : suc n * CELL ≡ suc (suc (suc (suc (n * CELL)))) = omega arith in rw (e, zero_words n)
 
-pub rest-done : {t₀ t : List ℕ} {stay : List Row} {used : ℕ} (k : ℕ) (l : Trails t₀ stay used) → length stay ≡ k → used ≤ CELLS → Cells t (unused no_row k used l.ys) → t ≡ laid_cells stay
+pub cleared : {t zs : List ℕ} {stay : List Row} {used : ℕ} (k : ℕ) (l : Trails t stay used) → k ≡ length stay → used ≤ CELLS → zs ≡ replicate (used * CELL - k * CELL) 0
+    → put_mid (k * CELL) (used * CELL - k * CELL) t zs ≡ laid_cells stay
 unfolding laid_cells
-rest-done k l e b c = c.is ∙ ap (joined words) (unused-all no_row k l.ys (rw (← e) l.first) (sym e) (omega (arith, l.few)) b l.last)
+cleared {t} {zs} {stay} {used} k l e b z =
+    let ys = l.ys in
+    let gap = replicate (used - k) no_row in
+    let o : k * CELL + (used * CELL - k * CELL) ≡ used * CELL = omega (arith, l.few) in
+    let m : used * CELL - k * CELL ≡ (used - k) * CELL = omega arith in
+    let is : t ≡ joined words ys ++ [] = l.is ∙ sym (append-nil (joined words ys)) in
+    let first : take (k * CELL) t ≡ joined words (take k ys) = rw is (joined-take words CELL wide_row ys [] k (omega (arith, l.few, l.long))) in
+    let last : drop (used * CELL) t ≡ joined words (drop used ys) = rw (is, joined-drop words CELL wide_row ys [] used (omega (arith, l.long))) (append-nil (joined words (drop used ys))) in
+    let middle : zs ≡ joined words gap = rw (z, m) (zero_words (used - k)) in
+    rw (drop-drop, o, first, last, middle, ← joined-append words CELL wide_row gap (drop used ys), ← joined-append words CELL wide_row (take k ys) (gap ++ drop used ys))
+    (ap (joined words) (unused-all no_row k ys (rw e l.first) e (omega (arith, l.few)) b l.last))

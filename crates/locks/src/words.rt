@@ -1,6 +1,5 @@
 // The bytes of a row as two numbers.
-ghost use Rattle.std.specs.Prelude.{◌≡◌, [], ◌∷◌};
-ghost use Rattle.locks.specs.Words.{value, Worded};
+ghost use Rattle.locks.specs.Words.{Worded};
 
 // Sixteen bytes as two numbers: the first eight and the last, the first of each the lowest.
 #[derive(Clone, Copy, Debug, PartialEq, Eq)]
@@ -9,27 +8,12 @@ pub struct Words {
     pub high: u64,
 }
 
-// The number with these digits, the lowest first.
-fn word(a: u8, b: u8, c: u8, d: u8, e: u8, f: u8, g: u8, h: u8) -> u64
-    ensures { result ≡ value (a ∷ b ∷ c ∷ d ∷ e ∷ f ∷ g ∷ h ∷ []) }
-{
-    a as u64
-        + b as u64 * 256
-        + c as u64 * 65536
-        + d as u64 * 16777216
-        + e as u64 * 4294967296
-        + f as u64 * 1099511627776
-        + g as u64 * 281474976710656
-        + h as u64 * 72057594037927936
-}
-
 pub fn words_of(b: [u8; 16]) -> Words
     ensures { Worded b result }
 {
-    let low = word(b[0], b[1], b[2], b[3], b[4], b[5], b[6], b[7]);
-    let high = word(b[8], b[9], b[10], b[11], b[12], b[13], b[14], b[15]);
+    let n = u128::from_le_bytes(b);
     Words {
-        low: low,
-        high: high,
+        low: (n % (1 << 64)) as u64,
+        high: (n >> 64) as u64,
     }
 }

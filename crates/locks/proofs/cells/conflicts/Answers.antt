@@ -1,19 +1,18 @@
 -- `cells::conflicts` meets its contract. Assumes nothing.
-use native.Mathlib.Omega.{arith}
-use mathlib.Core.Path.{sym, ◌∙◌}
+use Rattle.std.proofs.Common.{sym, ◌∙◌, arith, ◌≡◌, false, inl, inr}
+use Rattle.std.proofs.lemmas.Grind.{common_steps}
+use Rattle.locks.specs.Rows.{conflict}
 use Rattle.locks.proofs.Telling.{other-sequence, no-sequence, calm-owner, calm-shared, by-sequence}
 use Rattle.locks.proofs.cells.conflicts.Goals as goal
-use Rattle.locks.proofs.cells.conflicts.Goals.{else-a-ge-SHARED-via-then-a-ge-SHARED+else-b-ge-SHARED, else-a-ge-SHARED-via-else-a-ge-SHARED}
 
-pub returns-then-a-b : goal.returns-then-a-b
-returns-then-a-b c = λ p q x y. sym (no-sequence x y (other-sequence x y (λ e _ _. c.if-a-b.true e))).1
+pub returns-then-b-lt-SHARED : goal.returns-then-b-lt-SHARED
+returns-then-b-lt-SHARED c = λ p q x y. c.same_sequence.ensures p q x y ∙ sym (by-sequence x y (λ e. omega (arith, e)) (λ f g. omega (arith, f, g)))
 
-pub returns-then-a-b-2 : goal.returns-then-a-b-2
-returns-then-a-b-2 c = λ p q x y. sym (calm-owner x y c.if-a-b-2.true)
-
-pub returns-then-b-ge-SHARED : goal.returns-then-b-ge-SHARED
-returns-then-b-ge-SHARED c = λ p q x y. sym (calm-shared x y (omega arith) (omega arith))
-
-pub returns : goal.returns
-returns c = λ p q x y. c.same_sequence.ensures p q x y ∙ sym (by-sequence x y (λ e. omega (arith, e)) (λ f g.
-    elim c.else-a-ge-SHARED.branch [ else-a-ge-SHARED-via-then-a-ge-SHARED+else-b-ge-SHARED w ↦ omega arith | else-a-ge-SHARED-via-else-a-ge-SHARED w ↦ omega arith ]))
+pub returns-else-b-lt-SHARED : goal.returns-else-b-lt-SHARED
+returns-else-b-lt-SHARED c = λ p q x y.
+    let h : conflict p q ≡ false =
+    elim c.if-b-lt-SHARED.either [
+      | inl w ↦ calm-shared x y w.2 w.3
+      | inr v ↦ elim v [ inl w ↦ calm-owner x y w.1 | inr d ↦ (no-sequence x y (other-sequence x y (λ f _ _. d f))).1 ]
+    ] in
+    grind (arith, common_steps, h)

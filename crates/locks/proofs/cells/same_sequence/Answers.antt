@@ -1,13 +1,13 @@
 -- `cells::same_sequence` meets its contract. Assumes nothing.
-use mathlib.Core.Path.{sym}
+use Rattle.std.proofs.Common.{arith, ◌≡◌, false}
+use Rattle.std.proofs.lemmas.Grind.{common_steps}
+use Rattle.locks.specs.Rows.{same_sequence}
 use Rattle.locks.proofs.Telling.{other-sequence, rest-sequence}
 use Rattle.locks.proofs.cells.same_sequence.Goals as goal
-
-pub returns-then-a-b : goal.returns-then-a-b
-returns-then-a-b c = λ p q x y. sym (other-sequence x y (λ f g h. c.if-a-b.true f))
+use Rattle.locks.proofs.cells.same_sequence.Goals.{then-a-b, else-a-b}
 
 pub returns-then-a-b-2 : goal.returns-then-a-b-2
-returns-then-a-b-2 c = λ p q x y. sym (other-sequence x y (λ f g h. c.if-a-b-2.true g))
+returns-then-a-b-2 c = λ p q x y. rest-sequence x y c.if-a-b-2.true.0 c.if-a-b-2.true.1
 
-pub returns : goal.returns
-returns c = λ p q x y. rest-sequence x y c.if-a-b.false c.if-a-b-2.false
+pub returns-else-a-b-2 : goal.returns-else-a-b-2
+returns-else-a-b-2 c = λ p q x y. let h : same_sequence p q ≡ false = other-sequence x y (λ f g _. omega (arith, f, g)) in grind (arith, common_steps, h)

@@ -1,5 +1,5 @@
 -- `cells::stands` meets its contract: none of the first i rows is a twin, and waiting says whether one conflicts. Assumes nothing.
-use mathlib.Core.Path.{◌≡◌, refl, sym, ap, ◌∙◌}
+use mathlib.Core.Path.{◌≡◌, sym, ap, ◌∙◌}
 use mathlib.Core.Bool.{false, true}
 use native.Mathlib.Omega.{arith}
 use lib.ListN.{length, get_or}
@@ -11,9 +11,6 @@ use Rattle.locks.proofs.Telling.{walk, tells_row, tells-owner, twin-here, no-twi
 use Rattle.locks.proofs.cells.stands.Goals as goal
 use Rattle.locks.proofs.cells.stands.Goals.{then-same_sequence+else-x-c+then-x-lt-SHARED, then-x-lt-SHARED-via-then-x-lt-SHARED, then-x-lt-SHARED-via-else-x-lt-SHARED+then-c-lt-SHARED, then-same_sequence+else-x-c+else-x-lt-SHARED+else-c-lt-SHARED, else-same_sequence}
 
-pub loop-i-init : goal.loop-i-init
-loop-i-init c = (omega arith, λ rows r l e x. (refl, refl))
-
 pub returns-then-x-c : goal.returns-then-x-c
 unfolding standing_of has_twin
 returns-then-x-c c =
@@ -21,50 +18,48 @@ returns-then-x-c c =
     λ rows r l e x.
     let y = tells_row l i c.cell_at-x.ensures (omega (arith, e)) in
     let h : any (twin r) rows ≡ true =
-    ap (any (twin r)) (sym (take-length rows)) ∙ found (walk rows {n = length rows} (omega arith) (omega (arith, e, c.loop-i.invariant.0))) (twin r) no_row (omega (arith, e)) (sym (twin-here y r (tells-owner x) c.if-x-c.true x c.same_sequence.ensures) ∙ c.if-same_sequence.true) in
+    ap (any (twin r)) (sym (take-length rows)) ∙ found (walk rows {n = length rows} (omega arith) (omega (arith, e))) (twin r) no_row (omega (arith, e)) (sym (twin-here y r (tells-owner x) c.if-x-c.true x c.same_sequence.ensures) ∙ c.if-same_sequence.true) in
     rw h
 
 pub loop-i-preserved : goal.loop-i-preserved
 loop-i-preserved c =
     let a = c.args in
-    let i = c.loop-i.i in (
-      omega arith,
-      λ rows r l e x.
-          let q = get_or rows i no_row in
-          let y = tells_row l i c.cell_at-x.ensures (omega (arith, e)) in
-          let k = walk rows {n = length rows} {i = i} (omega arith) (omega (arith, e, c.loop-i.invariant.0)) in
-          let v = c.loop-i.invariant.1 rows r l e x in
-          let h = c.same_sequence.ensures r q x y in
-          let less = none-next k (twin r) no_row (omega (arith, e)) v.0 in
-          elim c.if-same_sequence.branch [
-            | then-same_sequence+else-x-c+then-x-lt-SHARED w ↦ (
-              less (no-twin-here y r (tells-owner x) w.if-x-c.false),
-              w.waiting-is ∙ sym (some_next k (conflict r) no_row (omega (arith, e)) (by-sequence x y (λ f. w.if-x-c.false (sym f)) (λ f g.
-                  elim w.then-x-lt-SHARED.branch [ then-x-lt-SHARED-via-then-x-lt-SHARED u ↦ omega arith | then-x-lt-SHARED-via-else-x-lt-SHARED+then-c-lt-SHARED u ↦ omega arith ]) ∙ sym h ∙ w.if-same_sequence.true)),
-            )
-            | then-same_sequence+else-x-c+else-x-lt-SHARED+else-c-lt-SHARED w ↦ (less (no-twin-here y r (tells-owner x) w.if-x-c.false), w.waiting-is ∙ v.1 ∙ sym (same_next k (conflict r) no_row (omega (arith, e)) (calm-shared x y (omega arith) (omega arith))))
-            | else-same_sequence w ↦ let n = no-sequence x y (sym h ∙ w.if-same_sequence.false) in (less n.0, w.waiting-is ∙ v.1 ∙ sym (same_next k (conflict r) no_row (omega (arith, e)) n.1))
-          ],
-    )
+    let i = c.loop-i.i in
+    λ rows r l e x.
+    let q = get_or rows i no_row in
+    let y = tells_row l i c.cell_at-x.ensures (omega (arith, e)) in
+    let k = walk rows {n = length rows} {i = i} (omega arith) (omega (arith, e)) in
+    let v = c.loop-i.invariant rows r l e x in
+    let h = c.same_sequence.ensures r q x y in
+    let less = none-next k (twin r) no_row (omega (arith, e)) v.0 in
+    elim c.if-same_sequence.branch [
+      | then-same_sequence+else-x-c+then-x-lt-SHARED w ↦ (
+        less (no-twin-here y r (tells-owner x) w.if-x-c.false),
+        w.waiting-is ∙ sym (some_next k (conflict r) no_row (omega (arith, e)) (by-sequence x y (λ f. w.if-x-c.false (sym f)) (λ f g.
+            elim w.then-x-lt-SHARED.branch [ then-x-lt-SHARED-via-then-x-lt-SHARED u ↦ omega arith | then-x-lt-SHARED-via-else-x-lt-SHARED+then-c-lt-SHARED u ↦ omega arith ]) ∙ sym h ∙ w.if-same_sequence.true)),
+      )
+      | then-same_sequence+else-x-c+else-x-lt-SHARED+else-c-lt-SHARED w ↦ (less (no-twin-here y r (tells-owner x) w.if-x-c.false), w.waiting-is ∙ v.1 ∙ sym (same_next k (conflict r) no_row (omega (arith, e)) (calm-shared x y (omega arith) (omega arith))))
+      | else-same_sequence w ↦ let n = no-sequence x y (sym h ∙ w.if-same_sequence.false) in (less n.0, w.waiting-is ∙ v.1 ∙ sym (same_next k (conflict r) no_row (omega (arith, e)) n.1))
+    ]
 
 pub returns-then-waiting : goal.returns-then-waiting
 unfolding standing_of has_twin waits
 returns-then-waiting c =
     λ rows r l e x.
     let s = c.loop-i in
-    let v = s.invariant.1 rows r l e x in
-    let a = take_all s.i rows (omega (arith, e, c.loop-i-test.false)) in
+    let v = s.invariant rows r l e x in
+    let a = take_all s.i rows (omega (arith, e)) in
     let h : any (twin r) rows ≡ false = rw a at v.0 in
     let w : any (conflict r) rows ≡ true = rw a at (sym v.1 ∙ c.if-waiting.true) in
     rw (h, w)
 
-pub returns : goal.returns
+pub returns-else-waiting : goal.returns-else-waiting
 unfolding standing_of has_twin waits
-returns c =
+returns-else-waiting c =
     λ rows r l e x.
     let s = c.loop-i in
-    let v = s.invariant.1 rows r l e x in
-    let a = take_all s.i rows (omega (arith, e, c.loop-i-test.false)) in
+    let v = s.invariant rows r l e x in
+    let a = take_all s.i rows (omega (arith, e)) in
     let h : any (twin r) rows ≡ false = rw a at v.0 in
     let w : any (conflict r) rows ≡ false = rw a at (sym v.1 ∙ c.if-waiting.false) in
     rw (h, w)

@@ -1,9 +1,5 @@
 -- `cells::stands` meets its contract: none of the first i rows is a twin, and waiting says whether one conflicts. Assumes nothing.
-use Prim.Native.Nat.{◌-◌, ◌≤◌}
-use mathlib.Core.Path.{◌≡◌}
-use mathlib.Core.Bool.{false}
-use mathlib.Core.List.{List}
-use lib.ListN.{length, take}
+use Rattle.std.proofs.Common.{◌≡◌, false, List, length, take}
 use Rattle.locks.specs.Lists.{any}
 use Rattle.locks.specs.Rows.{twin, conflict}
 use Rattle.locks.specs.declared.rows.Row.{Row}
@@ -12,7 +8,4 @@ use Rattle.locks.proofs.cells.stands.Given as goal
 
 abbrev pub invariant-loop-i : goal.invariant-loop-i
 invariant-loop-i l =
-    (l.i ≤ l.used) × ((rows : List Row) (r : Row) → Shows l.t rows → length rows ≡ l.used → Tells l.c r → (any (twin r) (take l.i rows) ≡ false) × (l.waiting ≡ any (conflict r) (take l.i rows)))
-
-abbrev pub decreases-loop-i : goal.decreases-loop-i
-decreases-loop-i l = l.used - l.i
+    (rows : List Row) (r : Row) → Shows l.t rows → length rows ≡ l.used → Tells l.c r → (any (twin r) (take l.i rows) ≡ false) × (l.waiting ≡ any (conflict r) (take l.i rows))

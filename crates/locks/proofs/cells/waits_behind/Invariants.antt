@@ -1,9 +1,5 @@
 -- `cells::waits_behind` meets its contract: none of the first i rows conflicts with it. Assumes nothing.
-use Prim.Native.Nat.{◌-◌, ◌≤◌}
-use mathlib.Core.Path.{◌≡◌}
-use mathlib.Core.Bool.{false}
-use mathlib.Core.List.{List}
-use lib.ListN.{length, take}
+use Rattle.std.proofs.Common.{◌≡◌, ◌≤◌, false, List, length, take}
 use Rattle.locks.specs.Lists.{any}
 use Rattle.locks.specs.Rows.{conflict}
 use Rattle.locks.specs.declared.rows.Row.{Row}
@@ -11,7 +7,4 @@ use Rattle.locks.specs.Cells.{Shows, Tells}
 use Rattle.locks.proofs.cells.waits_behind.Given as goal
 
 abbrev pub invariant-loop-i : goal.invariant-loop-i
-invariant-loop-i l = (l.i ≤ l.n) × ((rows : List Row) (q : Row) → Shows l.t rows → l.n ≤ length rows → Tells l.c q → any (conflict q) (take l.i rows) ≡ false)
-
-abbrev pub decreases-loop-i : goal.decreases-loop-i
-decreases-loop-i l = l.n - l.i
+invariant-loop-i l = (rows : List Row) (q : Row) → Shows l.t rows → l.n ≤ length rows → Tells l.c q → any (conflict q) (take l.i rows) ≡ false
