@@ -34,7 +34,7 @@ use Rattle.forms.proofs.Calls.{Whole, whole, unbroken, few, few-events}
 -- ---- a buffer in which a paper stands
 
 -- how many they are
-abbrev many : List Entry → List (List ℕ) → Writer
+abbrev pub many : List Entry → List (List ℕ) → Writer
 many es ss = counts (length es) (length ss)
 
 -- their paper, and behind it what was there
@@ -156,15 +156,15 @@ named-all w b (event e) t m =
     rw (sixteens-count b (12 + 20 * w.events) w.sequences)
     (all_end (names w.sequences) (entries_in w b) e (before w b t) (le-leb e.sequence w.sequences (ltb-false w.sequences e.sequence m)))
 
-grew : (w : Writer) (b : List ℕ) (i : Item) → many (entries_with (entries_in w b) i) (sequences_with (sequences_in w b) i) ≡ grown w i
+pub grew : (w : Writer) (b : List ℕ) (i : Item) → many (entries_with (entries_in w b) i) (sequences_with (sequences_in w b) i) ≡ grown w i
 grew w b (sequence s) = rw (length-append, entries-count b 12 w.events, sixteens-count b (12 + 20 * w.events) w.sequences)
 grew w b (event e) = rw (length-append, entries-count b 12 w.events, sixteens-count b (12 + 20 * w.events) w.sequences)
 
 module _ (w : Writer) (b : List ℕ) (i : Item) where
-  abbrev es' : List Entry
+  abbrev pub es' : List Entry
   es' = entries_with (entries_in w b) i
 
-  abbrev ss' : List (List ℕ)
+  abbrev pub ss' : List (List ℕ)
   ss' = sequences_with (sequences_in w b) i
 
   -- each answer with what brought it
@@ -193,7 +193,7 @@ module _ (w : Writer) (b : List ℕ) (i : Item) where
       let k = within w b i t f in
       record { events = k.0; sequences = k.1; long = sixteen-all w b i l; named = named-all w b i t m }
 
-  grown-long : item_long i ≡ true → length (paper_bytes es' ss') ≡ length_for (grown w i)
+  pub grown-long : item_long i ≡ true → length (paper_bytes es' ss') ≡ length_for (grown w i)
   grown-long l = paper-long es' ss' (sixteen-all w b i l) ∙ ap length_for (grew w b i)
 
   left : Holds es' ss' → length (paper_bytes es' ss') ≤ length b → Left w b i (many es' ss') (front es' ss' b)
