@@ -7,9 +7,8 @@ use lib.Dec.{eqb, leb}
 use borrow.Author.Tests.{eqb-true, eqb-false, leb-true, le-leb, lt-leb}
 use Rattle.locks.proofs.Tests.{cases, off, and_split}
 use Rattle.forms.specs.declared.items.Writer.{Writer}
-use Rattle.forms.specs.declared.items.Added.{Added}
-use Rattle.forms.specs.declared.items.Added.TheVariants as added
-use Rattle.forms.specs.Adding.{length_for}
+use Rattle.std.specs.Prelude.{Ok}
+use Rattle.forms.specs.Adding.{length_for, Added}
 use Rattle.forms.specs.Promises.{Listed, taken, badpaper, order, full, noroom}
 use Rattle.forms.proofs.Promises.{all_listed}
 use Rattle.marker.specs.declared.marks.Marked.TheVariants as mark
@@ -81,7 +80,7 @@ writer-parts w h k =
     rw (upper a w.sequences (omega arith), s, e)
 
 writers-differ : {a b : Added} → Listed a → Listed b → added_number a ≡ added_number b → a ≡ b
-writers-differ (taken w h k l) (taken v h' k' l') e = ap added.Taken (sym (writer-parts w h k) ∙ ap writer_of e ∙ writer-parts v h' k')
+writers-differ (taken w h k l) (taken v h' k' l') e = ap Ok (sym (writer-parts w h k) ∙ ap writer_of e ∙ writer-parts v h' k')
 writers-differ (taken w h k l) badpaper e = absurd (omega arith)
 writers-differ (taken w h k l) order e = absurd (omega arith)
 writers-differ (taken w h k l) full e = absurd (omega arith)
@@ -110,12 +109,12 @@ writers-differ noroom noroom e = refl
 pub writers-read-back : WritersReadBack
 writers-read-back w w' b i = go (all_listed w b i)
   where
-    go : {a : Added} → Listed a → a ≡ added.Taken w' → writer_of (writer_number w') ≡ w'
+    go : {a : Added} → Listed a → a ≡ Ok w' → writer_of (writer_number w') ≡ w'
     go (taken v h k l) e = let f : v ≡ w' = cc in rw f at (writer-parts v h k)
-    go badpaper e = let z : ◌≡◌ {A = ℕ} 0 1 = cc in absurd (omega arith)
-    go order e = let z : ◌≡◌ {A = ℕ} 0 1 = cc in absurd (omega arith)
-    go full e = let z : ◌≡◌ {A = ℕ} 0 1 = cc in absurd (omega arith)
-    go noroom e = let z : ◌≡◌ {A = ℕ} 0 1 = cc in absurd (omega arith)
+    go badpaper e = cc
+    go order e = cc
+    go full e = cc
+    go noroom e = cc
 
 -- ---- a refusal is told by its size
 
