@@ -8,7 +8,7 @@ use lib.ListN.{length, take, drop, length-append, length-drop, take-append-drop}
 use lib.Dec.{ltb}
 use lib.Seq.{take_at, drop-drop, append_snoc, drop-append-add}
 use borrow.Author.Tests.{not-false, eqb-true, leb-true, leb-false, ltb-true, ltb-false, le-leb, lt-leb, lt-ltb, le-ltb, eq-eqb, ne_eqb}
-use Rattle.std.specs.Prelude.{Ok, Err}
+use Rattle.std.specs.Prelude.{Ok, Err, ◌↔◌}
 use Rattle.locks.specs.Lists.{all, is_zero}
 use Rattle.locks.proofs.Tests.{picked, and_split}
 use Rattle.locks.proofs.Lists.{all_end, all-parts}
@@ -253,61 +253,39 @@ all_listed w b i = go (brought w b i)
 -- ---- the refusals in their order
 
 module _ (w : Writer) (b : List ℕ) (i : Item) where
-  is-bad : {x : Added × List ℕ} → Brought w b i x → x.0 ≡ Err Badpaper → is_broken w b ≡ true
-  is-bad (bad t) e = t
-  is-bad (late t m) e = cc
-  is-bad (many_more t m f) e = cc
-  is-bad (short t m f r) e = cc
-  is-bad (laid t m f r) e = cc
+  -- what brings each refusal
+  abbrev Reason : Refusal → Type 0
+  Reason Badpaper = is_broken w b ≡ true
+  Reason Order = (is_broken w b ≡ false) × (is_misplaced w i ≡ true)
+  Reason Full = (is_broken w b ≡ false) × (is_misplaced w i ≡ false) × (is_full w i ≡ true)
+  Reason Noroom = (is_broken w b ≡ false) × (is_misplaced w i ≡ false) × (is_full w i ≡ false) × (length b < length (paper_bytes (es' w b i) (ss' w b i)))
 
-  is-late : {x : Added × List ℕ} → Brought w b i x → x.0 ≡ Err Order → (is_broken w b ≡ false) × (is_misplaced w i ≡ true)
-  is-late (bad t) e = cc
-  is-late (late t m) e = (t, m)
-  is-late (many_more t m f) e = cc
-  is-late (short t m f r) e = cc
-  is-late (laid t m f r) e = cc
+  reason : {x : Added × List ℕ} → Brought w b i x → (r : Refusal) → x.0 ≡ Err r → Reason r
+  reason (bad t) r e = let f : Badpaper ≡ r = cc in rw (← f) t
+  reason (late t m) r e = let f : Order ≡ r = cc in rw (← f) (t, m)
+  reason (many_more t m f) r e = let g : Full ≡ r = cc in rw (← g) (t, m, f)
+  reason (short t m f l) r e = let g : Noroom ≡ r = cc in rw (← g) (t, m, f, l)
+  reason (laid t m f l) r e = cc
 
-  is-full : {x : Added × List ℕ} → Brought w b i x → x.0 ≡ Err Full → (is_broken w b ≡ false) × (is_misplaced w i ≡ false) × (is_full w i ≡ true)
-  is-full (bad t) e = cc
-  is-full (late t m) e = cc
-  is-full (many_more t m f) e = (t, m, f)
-  is-full (short t m f r) e = cc
-  is-full (laid t m f r) e = cc
-
-  is-short : {x : Added × List ℕ} → Brought w b i x → x.0 ≡ Err Noroom
-      → (is_broken w b ≡ false) × (is_misplaced w i ≡ false) × (is_full w i ≡ false) × (length b < length (paper_bytes (es' w b i) (ss' w b i)))
-  is-short (bad t) e = cc
-  is-short (late t m) e = cc
-  is-short (many_more t m f) e = cc
-  is-short (short t m f r) e = (t, m, f, r)
-  is-short (laid t m f r) e = cc
-
-  bad-is : is_broken w b ≡ true → (added w b i).0 ≡ Err Badpaper
-  unfolding added
-  bad-is t = rw t
-
-  late_is : (is_broken w b ≡ false) × (is_misplaced w i ≡ true) → (added w b i).0 ≡ Err Order
-  unfolding added
-  late_is h = rw (h.0, h.1)
-
-  full_is : (is_broken w b ≡ false) × (is_misplaced w i ≡ false) × (is_full w i ≡ true) → (added w b i).0 ≡ Err Full
-  unfolding added
-  full_is h = rw (h.0, h.1, h.2)
-
-  short-is : (is_broken w b ≡ false) × (is_misplaced w i ≡ false) × (is_full w i ≡ false) × (length b < length (paper_bytes (es' w b i) (ss' w b i)))
-      → (added w b i).0 ≡ Err Noroom
+  answers : (r : Refusal) → Reason r → (added w b i).0 ≡ Err r
   unfolding added laid_out
-  short-is h = rw (h.0, h.1, h.2, lt-ltb (length b) (length (paper_bytes (es' w b i) (ss' w b i))) h.3)
+  answers Badpaper t = rw t
+  answers Order h = rw (h.0, h.1)
+  answers Full h = rw (h.0, h.1, h.2)
+  answers Noroom h = rw (h.0, h.1, h.2, lt-ltb (length b) (length (paper_bytes (es' w b i) (ss' w b i))) h.3)
+
+  exactly : (r : Refusal) → ((added w b i).0 ≡ Err r) ↔ Reason r
+  exactly r = (reason (brought w b i) r, answers r)
 
 pub in_order : InOrder
 in_order =
     record {
-      badpaper = λ w b i. (is-bad w b i (brought w b i), bad-is w b i);
-      order = λ w b i. (is-late w b i (brought w b i), late_is w b i);
-      full = λ w b i. (is-full w b i (brought w b i), full_is w b i);
+      badpaper = λ w b i. exactly w b i Badpaper;
+      order = λ w b i. exactly w b i Order;
+      full = λ w b i. exactly w b i Full;
       noroom = λ w b i l. (
-        λ e. let k = is-short w b i (brought w b i) e in (k.0, k.1, k.2, rw (grown-long w b i l) at k.3),
-        λ h. short-is w b i (h.0, h.1, h.2, rw (grown-long w b i l) h.3),
+        λ e. let k = (exactly w b i Noroom).0 e in (k.0, k.1, k.2, rw (grown-long w b i l) at k.3),
+        λ h. (exactly w b i Noroom).1 (h.0, h.1, h.2, rw (grown-long w b i l) h.3),
       );
     }
 
