@@ -7,9 +7,9 @@ use lib.Dec.{eqb, leb}
 use borrow.Author.Tests.{eqb-true, eqb-false, leb-true, le-leb, lt-leb}
 use Rattle.locks.proofs.Tests.{cases, off, and_split}
 use Rattle.forms.specs.declared.items.Writer.{Writer}
-use Rattle.forms.specs.declared.items.Added.{Added}
-use Rattle.forms.specs.declared.items.Added.TheVariants as added
-use Rattle.forms.specs.Adding.{length_for}
+use Rattle.std.specs.Prelude.{cond, Ok, Err}
+use Rattle.forms.specs.declared.items.Refusal.TheVariants as writer
+use Rattle.forms.specs.Adding.{length_for, Added}
 use Rattle.forms.specs.Promises.{Listed, taken, badpaper, order, full, noroom}
 use Rattle.forms.proofs.Promises.{all_listed}
 use Rattle.marker.specs.declared.marks.Marked.TheVariants as mark
@@ -80,42 +80,29 @@ writer-parts w h k =
     let e = lower (length_for w) w.events (omega arith) in
     rw (upper a w.sequences (omega arith), s, e)
 
+-- the answer that has this number
+abbrev answer_of : ℕ → Added
+answer_of n = cond (leb 4294967296 n) (Ok (writer_of n)) (Err (cond (eqb n 15) writer.Badpaper (cond (eqb n 26) writer.Order (cond (eqb n 20) writer.Full writer.Noroom))))
+
+answer-back : {a : Added} → Listed a → answer_of (added_number a) ≡ a
+answer-back (taken w h k l) = rw (le-leb 4294967296 (writer_number w) (omega arith), writer-parts w h k)
+answer-back badpaper = refl
+answer-back order = refl
+answer-back full = refl
+answer-back noroom = refl
+
 writers-differ : {a b : Added} → Listed a → Listed b → added_number a ≡ added_number b → a ≡ b
-writers-differ (taken w h k l) (taken v h' k' l') e = ap added.Taken (sym (writer-parts w h k) ∙ ap writer_of e ∙ writer-parts v h' k')
-writers-differ (taken w h k l) badpaper e = absurd (omega arith)
-writers-differ (taken w h k l) order e = absurd (omega arith)
-writers-differ (taken w h k l) full e = absurd (omega arith)
-writers-differ (taken w h k l) noroom e = absurd (omega arith)
-writers-differ badpaper (taken v h k l) e = absurd (omega arith)
-writers-differ badpaper badpaper e = refl
-writers-differ badpaper order e = absurd (omega arith)
-writers-differ badpaper full e = absurd (omega arith)
-writers-differ badpaper noroom e = absurd (omega arith)
-writers-differ order (taken v h k l) e = absurd (omega arith)
-writers-differ order badpaper e = absurd (omega arith)
-writers-differ order order e = refl
-writers-differ order full e = absurd (omega arith)
-writers-differ order noroom e = absurd (omega arith)
-writers-differ full (taken v h k l) e = absurd (omega arith)
-writers-differ full badpaper e = absurd (omega arith)
-writers-differ full order e = absurd (omega arith)
-writers-differ full full e = refl
-writers-differ full noroom e = absurd (omega arith)
-writers-differ noroom (taken v h k l) e = absurd (omega arith)
-writers-differ noroom badpaper e = absurd (omega arith)
-writers-differ noroom order e = absurd (omega arith)
-writers-differ noroom full e = absurd (omega arith)
-writers-differ noroom noroom e = refl
+writers-differ l k e = sym (answer-back l) ∙ ap answer_of e ∙ answer-back k
 
 pub writers-read-back : WritersReadBack
 writers-read-back w w' b i = go (all_listed w b i)
   where
-    go : {a : Added} → Listed a → a ≡ added.Taken w' → writer_of (writer_number w') ≡ w'
+    go : {a : Added} → Listed a → a ≡ Ok w' → writer_of (writer_number w') ≡ w'
     go (taken v h k l) e = let f : v ≡ w' = cc in rw f at (writer-parts v h k)
-    go badpaper e = let z : ◌≡◌ {A = ℕ} 0 1 = cc in absurd (omega arith)
-    go order e = let z : ◌≡◌ {A = ℕ} 0 1 = cc in absurd (omega arith)
-    go full e = let z : ◌≡◌ {A = ℕ} 0 1 = cc in absurd (omega arith)
-    go noroom e = let z : ◌≡◌ {A = ℕ} 0 1 = cc in absurd (omega arith)
+    go badpaper e = cc
+    go order e = cc
+    go full e = cc
+    go noroom e = cc
 
 -- ---- a refusal is told by its size
 

@@ -1,5 +1,5 @@
 -- The desk's numbers, and the items that it hands over, written out. Assumes nothing.
-use Rattle.std.specs.Prelude.{ℕ, ◌≡◌, List, [], ◌∷◌, ◌++◌, map, replicate}
+use Rattle.std.specs.Prelude.{ℕ, ◌≡◌, List, [], ◌∷◌, ◌++◌, map, replicate, Ok, Err}
 use Prim.Native.String.{String}
 use Rattle.papers.specs.Bytes.{run}
 use Rattle.papers.specs.Entries.{entry_at}
@@ -7,7 +7,6 @@ use Rattle.papers.specs.declared.layout.Refusal.TheVariants.{Badpaper, Blank, Ba
 use Rattle.marker.specs.declared.keys.Keyed.TheVariants.{Written, Refused as Unwritten}
 use Rattle.marker.specs.declared.marks.Marked.TheVariants.{Mark, Refused}
 use Rattle.forms.specs.declared.items.Refusal.TheVariants as writer
-use Rattle.forms.specs.declared.items.Added.TheVariants.{Taken, Refused as Unadded}
 use Rattle.forms.specs.Adding.{counts}
 use Rattle.brinefeather.specs.Desk.{mark_number, key_number, writer_of, added_number, refused_of}
 
@@ -37,13 +36,13 @@ numbers =
     ∷ numbered "no key: blank" (key_number (Unwritten Blank)) 16
     ∷ numbered "no key: noroom" (key_number (Unwritten Noroom)) 18
     -- §3: the paper's length times 2^32, its events times 65,536, its sequences; or the refusal number
-    ∷ numbered "a writer of one sequence" (added_number (Taken (counts 0 1))) 0x0000001C00000001
-    ∷ numbered "a writer of the README's paper" (added_number (Taken (counts 6 1))) 0x0000009400060001
-    ∷ numbered "a writer of the longest paper" (added_number (Taken (counts 1000 64))) 0x0000522C03E80040
-    ∷ numbered "not added: badpaper" (added_number (Unadded writer.Badpaper)) 15
-    ∷ numbered "not added: order" (added_number (Unadded writer.Order)) 26
-    ∷ numbered "not added: full" (added_number (Unadded writer.Full)) 20
-    ∷ numbered "not added: noroom" (added_number (Unadded writer.Noroom)) 18
+    ∷ numbered "a writer of one sequence" (added_number (Ok (counts 0 1))) 0x0000001C00000001
+    ∷ numbered "a writer of the README's paper" (added_number (Ok (counts 6 1))) 0x0000009400060001
+    ∷ numbered "a writer of the longest paper" (added_number (Ok (counts 1000 64))) 0x0000522C03E80040
+    ∷ numbered "not added: badpaper" (added_number (Err writer.Badpaper)) 15
+    ∷ numbered "not added: order" (added_number (Err writer.Order)) 26
+    ∷ numbered "not added: full" (added_number (Err writer.Full)) 20
+    ∷ numbered "not added: noroom" (added_number (Err writer.Noroom)) 18
     -- read back: the counts, whatever the length
     ∷ numbered "no events before the first call" (writer_of 0).events 0
     ∷ numbered "no sequences before the first call" (writer_of 0).sequences 0

@@ -1,14 +1,12 @@
 -- The numbers that the C desk gets. Assumes nothing.
-use Rattle.std.specs.Prelude.{ℕ, ◌+◌, ◌*◌, ◌/◌, ◌%◌, Bool, cond, ◌||◌, eqb, leb}
+use Rattle.std.specs.Prelude.{ℕ, ◌+◌, ◌*◌, ◌/◌, ◌%◌, Bool, cond, ◌||◌, eqb, leb, Ok, Err}
 use Rattle.locks.specs.Lists.{between}
 use Rattle.papers.specs.Fields.{number_of}
 use Rattle.papers.specs.declared.layout.Refusal.{Refusal}
 use Rattle.papers.specs.declared.layout.Refusal.TheVariants.{Badpaper, Blank, Badsheet, Noroom}
-use Rattle.forms.specs.Adding.{counts, length_for}
+use Rattle.forms.specs.Adding.{counts, length_for, Added}
 use Rattle.forms.specs.Adding as writer
 use Rattle.forms.specs.declared.items.Writer.{Writer}
-use Rattle.forms.specs.declared.items.Added.{Added}
-use Rattle.forms.specs.declared.items.Added.TheVariants as added
 use Rattle.marker.specs.declared.keys.Keyed.{Keyed}
 use Rattle.marker.specs.declared.keys.Keyed.TheVariants as key
 use Rattle.marker.specs.declared.marks.Marked.{Marked}
@@ -43,8 +41,8 @@ writer_of n = counts (n / 65536 % 65536) (n % 65536)
 
 -- the writer after an accepted call, or the refusal number
 abbrev pub added_number : Added → ℕ
-added_number (added.Taken w) = writer_number w
-added_number (added.Refused r) = writer.number_of r
+added_number (Ok w) = writer_number w
+added_number (Err r) = writer.number_of r
 
 -- ---- a refusal is told by its size, as in `brinefeather_refused` of desk/brinefeather.h
 
@@ -66,5 +64,5 @@ key_refusal (key.Written length) = 0
 key_refusal (key.Refused r) = number_of r
 
 abbrev pub added_refusal : Added → ℕ
-added_refusal (added.Taken w) = 0
-added_refusal (added.Refused r) = writer.number_of r
+added_refusal (Ok w) = 0
+added_refusal (Err r) = writer.number_of r

@@ -1,12 +1,11 @@
 -- What is proved of the desk's numbers, for every paper, sheet, buffer, writer and item. Assumes nothing.
-use Rattle.std.specs.Prelude.{ℕ, ◌≡◌, List}
+use Rattle.std.specs.Prelude.{ℕ, ◌≡◌, List, Ok}
 use Rattle.papers.specs.Fields.{paper_of}
 use Rattle.papers.specs.declared.layout.Refusal.{Refusal}
 use Rattle.papers.specs.declared.layout.Read.TheVariants as read
 use Rattle.marker.specs.Key.{keyed}
 use Rattle.marker.specs.Mark.{marked}
 use Rattle.forms.specs.declared.items.Writer.{Writer}
-use Rattle.forms.specs.declared.items.Added.TheVariants.{Taken}
 use Rattle.forms.specs.Adding.{Item, added}
 use Rattle.brinefeather.specs.Desk.{mark_number, key_number, writer_number, writer_of, added_number, refused_of, mark_refusal, key_refusal, added_refusal}
 
@@ -22,7 +21,7 @@ pub record NumbersDiffer : Type 0 where
 
 -- §3: what an accepted call returned is its writer at the next call
 abbrev pub WritersReadBack : Type 0
-WritersReadBack = (w w' : Writer) (b : List ℕ) (i : Item) → (added w b i).0 ≡ Taken w' → writer_of (writer_number w') ≡ w'
+WritersReadBack = (w w' : Writer) (b : List ℕ) (i : Item) → (added w b i).0 ≡ Ok w' → writer_of (writer_number w') ≡ w'
 
 -- whatever a routine returned, its size says whether it is a refusal and which
 pub record RefusalsTold : Type 0 where

@@ -7,9 +7,9 @@ ghost use Rattle.brinefeather.specs.Desk.{writer_of, writer_number, added_number
 
 use forms::items::*;
 use papers::{entry_of, sequence_of};
-use writer::{add_event, add_sequence, number_of};
+use writer::{add_event, add_sequence};
 
-// The length is not read back.
+// A function, and no `From`: Writer is another crate's. The length is not read back.
 fn writer_of(n: u64) -> Writer
     ensures { result ≡ writer_of n }
 {
@@ -22,31 +22,29 @@ fn writer_of(n: u64) -> Writer
 fn writer_number(w: Writer) -> u64
     ensures { result ≡ writer_number w }
 {
-    let events = w.events as u64;
-    let sequences = w.sequences as u64;
-    let length = 12 + 20 * events + 16 * sequences;
+    let length = w.length() as u64;
+    let events = u64::from(w.events);
+    let sequences = u64::from(w.sequences);
     (length * 65536 + events) * 65536 + sequences
 }
 
-fn added_number(a: Added) -> u64
+fn added_number(a: Result<Writer, Refusal>) -> u64
     ensures { result ≡ added_number a }
 {
     match a {
-        Added::Taken(w) => writer_number(w),
-        Added::Refused(r) => number_of(r) as u64,
+        Ok(w) => writer_number(w),
+        Err(r) => u64::from(r.number()),
     }
 }
 
 pub fn brinefeather_add_sequence(writer: u64, paper: &mut [u8], sequence: &[u8]) -> u64
     ensures { (result ≡ added_number (added (writer_of writer) paper.old (sequence_item (run sequence.now 0 16))).0) × (paper.new ≡ (added (writer_of writer) paper.old (sequence_item (run sequence.now 0 16))).1) }
 {
-    let s = sequence_of(sequence);
-    added_number(add_sequence(writer_of(writer), paper, s))
+    added_number(add_sequence(writer_of(writer), paper, sequence_of(sequence)))
 }
 
 pub fn brinefeather_add_event(writer: u64, paper: &mut [u8], event: &[u8]) -> u64
     ensures { (result ≡ added_number (added (writer_of writer) paper.old (event_item (entry_at event.now 0))).0) × (paper.new ≡ (added (writer_of writer) paper.old (event_item (entry_at event.now 0))).1) }
 {
-    let e = entry_of(event);
-    added_number(add_event(writer_of(writer), paper, e))
+    added_number(add_event(writer_of(writer), paper, entry_of(event)))
 }

@@ -49,7 +49,7 @@ use Rattle.marker.proofs.mark.Met as mark_code
 use Rattle.marker.proofs.perfect.Met as perfect-code
 use Rattle.writer.proofs.add_sequence.Met as add-sequence-code
 use Rattle.writer.proofs.add_event.Met as add-event-code
-use Rattle.writer.proofs.number_of.Met as number-of-code
+use Rattle.forms.proofs.items.Refusal.number.Met as number-of-code
 use Rattle.brinefeather.proofs.brinefeather_add_sequence.Met as brinefeather-add-sequence-code
 use Rattle.brinefeather.proofs.brinefeather_add_event.Met as brinefeather-add-event-code
 use Rattle.brinefeather.proofs.brinefeather_key.Met as brinefeather-key-code

@@ -41,7 +41,7 @@ use Rattle.marker.proofs.mark.Reads as mark-promise
 use Rattle.marker.proofs.perfect.Statement as perfect-theorem
 use Rattle.writer.proofs.add_sequence.Statement as add-sequence-theorem
 use Rattle.writer.proofs.add_event.Statement as add-event-theorem
-use Rattle.writer.proofs.number_of.Statement as number-of-theorem
+use Rattle.forms.proofs.items.Refusal.number.Statement as number-of-theorem
 use Rattle.brinefeather.proofs.brinefeather_add_sequence.Statement as brinefeather-add-sequence-theorem
 use Rattle.brinefeather.proofs.brinefeather_add_event.Statement as brinefeather-add-event-theorem
 use Rattle.brinefeather.proofs.brinefeather_key.Statement as brinefeather-key-theorem
@@ -49,7 +49,7 @@ use Rattle.brinefeather.proofs.brinefeather_mark.Statement as brinefeather-mark-
 
 -- ---- the code
 
--- Each public routine of model, marker, writer and brinefeather keeps its promise: `statement` is what the toolchain makes of the routine and of the promise that stands above it in crates/*/src.
+-- Each public routine of model, marker, writer and brinefeather, and the number of a writer's refusal, keeps its promise: `statement` is what the toolchain makes of the routine and of the promise that stands above it in crates/*/src.
 pub record Code (M : Type 1) : Type 2 where
   pub fresh : fresh-theorem.statement M
   pub step : step-theorem.statement M

@@ -8,6 +8,7 @@ use lib.ListN.{length, take, drop, length-append, length-drop, take-append-drop}
 use lib.Dec.{ltb}
 use lib.Seq.{take_at, drop-drop, append_snoc, drop-append-add}
 use borrow.Author.Tests.{not-false, eqb-true, leb-true, leb-false, ltb-true, ltb-false, le-leb, lt-leb, lt-ltb, le-ltb, eq-eqb, ne_eqb}
+use Rattle.std.specs.Prelude.{Ok, Err, ◌↔◌}
 use Rattle.locks.specs.Lists.{all, is_zero}
 use Rattle.locks.proofs.Tests.{picked, and_split}
 use Rattle.locks.proofs.Lists.{all_end, all-parts}
@@ -23,10 +24,8 @@ use Rattle.papers.proofs.Files.{Paper, PaperRead, broken, empty, some, paper-has
 use Rattle.forms.specs.declared.items.Writer.{Writer}
 use Rattle.forms.specs.declared.items.Refusal.{Refusal}
 use Rattle.forms.specs.declared.items.Refusal.TheVariants.{Badpaper, Order, Full, Noroom}
-use Rattle.forms.specs.declared.items.Added.{Added}
-use Rattle.forms.specs.declared.items.Added.TheVariants.{Taken, Refused}
 use Rattle.forms.specs.Form.{paper_bytes}
-use Rattle.forms.specs.Adding.{Item, sequence, event, counts, length_for, entries_in, sequences_in, has_counts, begins, is_broken, is_misplaced, is_full, entries_with, sequences_with, in_front, laid_out, added, added_all}
+use Rattle.forms.specs.Adding.{Item, sequence, event, counts, length_for, entries_in, sequences_in, has_counts, begins, is_broken, is_misplaced, is_full, entries_with, sequences_with, in_front, laid_out, Added, added, added_all}
 use Rattle.forms.specs.Promises.{Holds, Bytes, BeginsWith, item_long, grown, Left, EachLeaves, RefusedLeaves, Listed, taken, badpaper, order, full, noroom, AllListed, InOrder, OnAPaper, OnPapers, WriterRefusalNumbers, WritesAll, WrittenAgain}
 use Rattle.forms.proofs.Laws.{entries-count, sixteens-sixteen, paper-long, names, entries-front, sixteens-front, bytes-front}
 use Rattle.forms.proofs.Forms.{at-2, at-6, entries-read, sequences-read, made-fits, reads-back, one_form, names-have}
@@ -35,7 +34,7 @@ use Rattle.forms.proofs.Calls.{Whole, whole, unbroken, few, few-events}
 -- ---- a buffer in which a paper stands
 
 -- how many they are
-abbrev many : List Entry → List (List ℕ) → Writer
+abbrev pub many : List Entry → List (List ℕ) → Writer
 many es ss = counts (length es) (length ss)
 
 -- their paper, and behind it what was there
@@ -98,7 +97,7 @@ module _ (es : List Entry) (ss : List (List ℕ)) (h : Holds es ss) where
 module _ (es : List Entry) (ss : List (List ℕ)) (b c : List ℕ) (st : Stands es ss b c) (i : Item) where
   step : is_misplaced (many es ss) i ≡ false → is_full (many es ss) i ≡ false → length (paper_bytes es ss) ≤ length (paper_bytes (entries_with es i) (sequences_with ss i))
       → length (paper_bytes (entries_with es i) (sequences_with ss i)) ≤ length b
-      → added (many es ss) c i ≡ (Taken (many (entries_with es i) (sequences_with ss i)), front (entries_with es i) (sequences_with ss i) b)
+      → added (many es ss) c i ≡ (Ok (many (entries_with es i) (sequences_with ss i)), front (entries_with es i) (sequences_with ss i) b)
   unfolding added laid_out
   step m f more room =
       let n = length (paper_bytes (entries_with es i) (sequences_with ss i)) in
@@ -157,24 +156,24 @@ named-all w b (event e) t m =
     rw (sixteens-count b (12 + 20 * w.events) w.sequences)
     (all_end (names w.sequences) (entries_in w b) e (before w b t) (le-leb e.sequence w.sequences (ltb-false w.sequences e.sequence m)))
 
-grew : (w : Writer) (b : List ℕ) (i : Item) → many (entries_with (entries_in w b) i) (sequences_with (sequences_in w b) i) ≡ grown w i
+pub grew : (w : Writer) (b : List ℕ) (i : Item) → many (entries_with (entries_in w b) i) (sequences_with (sequences_in w b) i) ≡ grown w i
 grew w b (sequence s) = rw (length-append, entries-count b 12 w.events, sixteens-count b (12 + 20 * w.events) w.sequences)
 grew w b (event e) = rw (length-append, entries-count b 12 w.events, sixteens-count b (12 + 20 * w.events) w.sequences)
 
 module _ (w : Writer) (b : List ℕ) (i : Item) where
-  abbrev es' : List Entry
+  abbrev pub es' : List Entry
   es' = entries_with (entries_in w b) i
 
-  abbrev ss' : List (List ℕ)
+  abbrev pub ss' : List (List ℕ)
   ss' = sequences_with (sequences_in w b) i
 
   -- each answer with what brought it
   data Brought : Added × List ℕ → Type 0 where
-    bad : is_broken w b ≡ true → Brought (Refused Badpaper, b)
-    late : is_broken w b ≡ false → is_misplaced w i ≡ true → Brought (Refused Order, b)
-    many_more : is_broken w b ≡ false → is_misplaced w i ≡ false → is_full w i ≡ true → Brought (Refused Full, b)
-    short : is_broken w b ≡ false → is_misplaced w i ≡ false → is_full w i ≡ false → length b < length (paper_bytes es' ss') → Brought (Refused Noroom, b)
-    laid : is_broken w b ≡ false → is_misplaced w i ≡ false → is_full w i ≡ false → length (paper_bytes es' ss') ≤ length b → Brought (Taken (many es' ss'), front es' ss' b)
+    bad : is_broken w b ≡ true → Brought (Err Badpaper, b)
+    late : is_broken w b ≡ false → is_misplaced w i ≡ true → Brought (Err Order, b)
+    many_more : is_broken w b ≡ false → is_misplaced w i ≡ false → is_full w i ≡ true → Brought (Err Full, b)
+    short : is_broken w b ≡ false → is_misplaced w i ≡ false → is_full w i ≡ false → length b < length (paper_bytes es' ss') → Brought (Err Noroom, b)
+    laid : is_broken w b ≡ false → is_misplaced w i ≡ false → is_full w i ≡ false → length (paper_bytes es' ss') ≤ length b → Brought (Ok (many es' ss'), front es' ss' b)
 
   laid-brought : is_broken w b ≡ false → is_misplaced w i ≡ false → is_full w i ≡ false → Brought (laid_out es' ss' b)
   unfolding laid_out
@@ -194,7 +193,7 @@ module _ (w : Writer) (b : List ℕ) (i : Item) where
       let k = within w b i t f in
       record { events = k.0; sequences = k.1; long = sixteen-all w b i l; named = named-all w b i t m }
 
-  grown-long : item_long i ≡ true → length (paper_bytes es' ss') ≡ length_for (grown w i)
+  pub grown-long : item_long i ≡ true → length (paper_bytes es' ss') ≡ length_for (grown w i)
   grown-long l = paper-long es' ss' (sixteen-all w b i l) ∙ ap length_for (grew w b i)
 
   left : Holds es' ss' → length (paper_bytes es' ss') ≤ length b → Left w b i (many es' ss') (front es' ss' b)
@@ -216,16 +215,16 @@ module _ (w : Writer) (b : List ℕ) (i : Item) where
 pub each-leaves : EachLeaves
 each-leaves w w' b b' i l = go (brought w b i)
   where
-    no : (r : Refusal) {c : List ℕ} → ◌≡◌ {A = Added × List ℕ} (Refused r, c) (Taken w', b') → Left w b i w' b'
-    no r e = let a : Refused r ≡ Taken w' = ap (λ x. x.0) e in let z : ◌≡◌ {A = ℕ} 0 1 = cc in absurd (omega arith)
+    no : (r : Refusal) {c : List ℕ} → ◌≡◌ {A = Added × List ℕ} (Err r, c) (Ok w', b') → Left w b i w' b'
+    no r e = let a : Err r ≡ Ok w' = ap (λ x. x.0) e in cc
 
-    go : {x : Added × List ℕ} → Brought w b i x → x ≡ (Taken w', b') → Left w b i w' b'
+    go : {x : Added × List ℕ} → Brought w b i x → x ≡ (Ok w', b') → Left w b i w' b'
     go (bad t) e = no Badpaper e
     go (late t m) e = no Order e
     go (many_more t m f) e = no Full e
     go (short t m f r) e = no Noroom e
     go (laid t m f room) e =
-        let a : Taken (many (es' w b i) (ss' w b i)) ≡ Taken w' = ap (λ x. x.0) e in
+        let a : Ok (many (es' w b i) (ss' w b i)) ≡ Ok w' = ap (λ x. x.0) e in
         let g : many (es' w b i) (ss' w b i) ≡ w' = cc in
         let h : front (es' w b i) (ss' w b i) b ≡ b' = ap (λ x. x.1) e in
         rw (← g, ← h) (left w b i (held w b i l t m f) room)
@@ -233,15 +232,13 @@ each-leaves w w' b b' i l = go (brought w b i)
 pub refused-leaves : RefusedLeaves
 refused-leaves w b b' i r = go (brought w b i)
   where
-    go : {x : Added × List ℕ} → Brought w b i x → x ≡ (Refused r, b') → b' ≡ b
+    go : {x : Added × List ℕ} → Brought w b i x → x ≡ (Err r, b') → b' ≡ b
     go (bad t) e = sym (ap (λ x. x.1) e)
     go (late t m) e = sym (ap (λ x. x.1) e)
     go (many_more t m f) e = sym (ap (λ x. x.1) e)
     go (short t m f k) e = sym (ap (λ x. x.1) e)
     go (laid t m f k) e =
-        let a : Taken (many (es' w b i) (ss' w b i)) ≡ Refused r = ap (λ x. x.0) e in
-        let z : ◌≡◌ {A = ℕ} 0 1 = cc in
-        absurd (omega arith)
+        let a : Ok (many (es' w b i) (ss' w b i)) ≡ Err r = ap (λ x. x.0) e in cc
 
 pub all_listed : AllListed
 all_listed w b i = go (brought w b i)
@@ -255,65 +252,40 @@ all_listed w b i = go (brought w b i)
 
 -- ---- the refusals in their order
 
-abbrev Not : Type 0
-Not = ◌≡◌ {A = ℕ} 0 1
-
 module _ (w : Writer) (b : List ℕ) (i : Item) where
-  is-bad : {x : Added × List ℕ} → Brought w b i x → x.0 ≡ Refused Badpaper → is_broken w b ≡ true
-  is-bad (bad t) e = t
-  is-bad (late t m) e = let z : Not = cc in absurd (omega arith)
-  is-bad (many_more t m f) e = let z : Not = cc in absurd (omega arith)
-  is-bad (short t m f r) e = let z : Not = cc in absurd (omega arith)
-  is-bad (laid t m f r) e = let z : Not = cc in absurd (omega arith)
+  -- what brings each refusal
+  abbrev Reason : Refusal → Type 0
+  Reason Badpaper = is_broken w b ≡ true
+  Reason Order = (is_broken w b ≡ false) × (is_misplaced w i ≡ true)
+  Reason Full = (is_broken w b ≡ false) × (is_misplaced w i ≡ false) × (is_full w i ≡ true)
+  Reason Noroom = (is_broken w b ≡ false) × (is_misplaced w i ≡ false) × (is_full w i ≡ false) × (length b < length (paper_bytes (es' w b i) (ss' w b i)))
 
-  is-late : {x : Added × List ℕ} → Brought w b i x → x.0 ≡ Refused Order → (is_broken w b ≡ false) × (is_misplaced w i ≡ true)
-  is-late (bad t) e = let z : Not = cc in absurd (omega arith)
-  is-late (late t m) e = (t, m)
-  is-late (many_more t m f) e = let z : Not = cc in absurd (omega arith)
-  is-late (short t m f r) e = let z : Not = cc in absurd (omega arith)
-  is-late (laid t m f r) e = let z : Not = cc in absurd (omega arith)
+  reason : {x : Added × List ℕ} → Brought w b i x → (r : Refusal) → x.0 ≡ Err r → Reason r
+  reason (bad t) r e = let f : Badpaper ≡ r = cc in rw (← f) t
+  reason (late t m) r e = let f : Order ≡ r = cc in rw (← f) (t, m)
+  reason (many_more t m f) r e = let g : Full ≡ r = cc in rw (← g) (t, m, f)
+  reason (short t m f l) r e = let g : Noroom ≡ r = cc in rw (← g) (t, m, f, l)
+  reason (laid t m f l) r e = cc
 
-  is-full : {x : Added × List ℕ} → Brought w b i x → x.0 ≡ Refused Full → (is_broken w b ≡ false) × (is_misplaced w i ≡ false) × (is_full w i ≡ true)
-  is-full (bad t) e = let z : Not = cc in absurd (omega arith)
-  is-full (late t m) e = let z : Not = cc in absurd (omega arith)
-  is-full (many_more t m f) e = (t, m, f)
-  is-full (short t m f r) e = let z : Not = cc in absurd (omega arith)
-  is-full (laid t m f r) e = let z : Not = cc in absurd (omega arith)
-
-  is-short : {x : Added × List ℕ} → Brought w b i x → x.0 ≡ Refused Noroom
-      → (is_broken w b ≡ false) × (is_misplaced w i ≡ false) × (is_full w i ≡ false) × (length b < length (paper_bytes (es' w b i) (ss' w b i)))
-  is-short (bad t) e = let z : Not = cc in absurd (omega arith)
-  is-short (late t m) e = let z : Not = cc in absurd (omega arith)
-  is-short (many_more t m f) e = let z : Not = cc in absurd (omega arith)
-  is-short (short t m f r) e = (t, m, f, r)
-  is-short (laid t m f r) e = let z : Not = cc in absurd (omega arith)
-
-  bad-is : is_broken w b ≡ true → (added w b i).0 ≡ Refused Badpaper
-  unfolding added
-  bad-is t = rw t
-
-  late_is : (is_broken w b ≡ false) × (is_misplaced w i ≡ true) → (added w b i).0 ≡ Refused Order
-  unfolding added
-  late_is h = rw (h.0, h.1)
-
-  full_is : (is_broken w b ≡ false) × (is_misplaced w i ≡ false) × (is_full w i ≡ true) → (added w b i).0 ≡ Refused Full
-  unfolding added
-  full_is h = rw (h.0, h.1, h.2)
-
-  short-is : (is_broken w b ≡ false) × (is_misplaced w i ≡ false) × (is_full w i ≡ false) × (length b < length (paper_bytes (es' w b i) (ss' w b i)))
-      → (added w b i).0 ≡ Refused Noroom
+  answers : (r : Refusal) → Reason r → (added w b i).0 ≡ Err r
   unfolding added laid_out
-  short-is h = rw (h.0, h.1, h.2, lt-ltb (length b) (length (paper_bytes (es' w b i) (ss' w b i))) h.3)
+  answers Badpaper t = rw t
+  answers Order h = rw (h.0, h.1)
+  answers Full h = rw (h.0, h.1, h.2)
+  answers Noroom h = rw (h.0, h.1, h.2, lt-ltb (length b) (length (paper_bytes (es' w b i) (ss' w b i))) h.3)
+
+  exactly : (r : Refusal) → ((added w b i).0 ≡ Err r) ↔ Reason r
+  exactly r = (reason (brought w b i) r, answers r)
 
 pub in_order : InOrder
 in_order =
     record {
-      badpaper = λ w b i. (is-bad w b i (brought w b i), bad-is w b i);
-      order = λ w b i. (is-late w b i (brought w b i), late_is w b i);
-      full = λ w b i. (is-full w b i (brought w b i), full_is w b i);
+      badpaper = λ w b i. exactly w b i Badpaper;
+      order = λ w b i. exactly w b i Order;
+      full = λ w b i. exactly w b i Full;
       noroom = λ w b i l. (
-        λ e. let k = is-short w b i (brought w b i) e in (k.0, k.1, k.2, rw (grown-long w b i l) at k.3),
-        λ h. short-is w b i (h.0, h.1, h.2, rw (grown-long w b i l) h.3),
+        λ e. let k = (exactly w b i Noroom).0 e in (k.0, k.1, k.2, rw (grown-long w b i l) at k.3),
+        λ h. (exactly w b i Noroom).1 (h.0, h.1, h.2, rw (grown-long w b i l) h.3),
       );
     }
 
@@ -336,11 +308,11 @@ module _ (es : List Entry) (ss : List (List ℕ)) (r : List ℕ) (h : Holds es s
 
   module _ (i : Item) (m : is_misplaced w₀ i ≡ false) (f : is_full w₀ i ≡ false) (k : ℕ)
       (l : length (paper_bytes (entries_with es i) (sequences_with ss i)) ≡ length_for w₀ + k) where
-    on-short : length r < k → added w₀ b₀ i ≡ (Refused Noroom, b₀)
+    on-short : length r < k → added w₀ b₀ i ≡ (Err Noroom, b₀)
     unfolding laid_out
     on-short s = on-paper i m f ∙ rw (l, b-long, lt-ltb (length_for w₀ + length r) (length_for w₀ + k) (omega arith))
 
-    on-more : k ≤ length r → added w₀ b₀ i ≡ (Taken (many (entries_with es i) (sequences_with ss i)), paper_bytes (entries_with es i) (sequences_with ss i) ++ drop k r)
+    on-more : k ≤ length r → added w₀ b₀ i ≡ (Ok (many (entries_with es i) (sequences_with ss i)), paper_bytes (entries_with es i) (sequences_with ss i) ++ drop k r)
     unfolding laid_out
     on-more s =
         let d : drop (length_for w₀ + k) b₀ ≡ drop k r = rw (p-long es ss h) at (drop-append-add (paper_bytes es ss) r k) in
@@ -352,11 +324,11 @@ module _ (es : List Entry) (ss : List (List ℕ)) (r : List ℕ) (h : Holds es s
   sequence-grows : (s : List ℕ) → is_sixteen s ≡ true → length (paper_bytes es (ss ++ s ∷ [])) ≡ length_for w₀ + 16
   sequence-grows s l = paper-long es (ss ++ s ∷ []) (all_end is_sixteen ss s h.long l) ∙ rw length-append (omega arith)
 
-  is-misplaced : (i : Item) → is_misplaced w₀ i ≡ true → added w₀ b₀ i ≡ (Refused Order, b₀)
+  is-misplaced : (i : Item) → is_misplaced w₀ i ≡ true → added w₀ b₀ i ≡ (Err Order, b₀)
   unfolding added
   is-misplaced i m = rw (p-whole es ss h r, m)
 
-  is-over : (i : Item) → is_misplaced w₀ i ≡ false → is_full w₀ i ≡ true → added w₀ b₀ i ≡ (Refused Full, b₀)
+  is-over : (i : Item) → is_misplaced w₀ i ≡ false → is_full w₀ i ≡ true → added w₀ b₀ i ≡ (Err Full, b₀)
   unfolding added
   is-over i m f = rw (p-whole es ss h r, m, f)
 
@@ -390,7 +362,7 @@ fewer-events xs ys ss h =
     record { events = omega (arith, length-append xs ys, h.events); sequences = h.sequences; long = h.long; named = (all-parts (names (length ss)) xs ys h.named).0 }
 
 write-sequences : (ss done : List (List ℕ)) (b c : List ℕ) (more : List Item) → Stands [] done b c → Holds [] (done ++ ss) → 12 + 16 * length (done ++ ss) ≤ length b
-    → (d : List ℕ) × Stands [] (done ++ ss) b d × (added_all (Taken (many [] done), c) (map sequence ss ++ more) ≡ added_all (Taken (many [] (done ++ ss)), d) more)
+    → (d : List ℕ) × Stands [] (done ++ ss) b d × (added_all (Ok (many [] done), c) (map sequence ss ++ more) ≡ added_all (Ok (many [] (done ++ ss)), d) more)
 write-sequences [] done b c more st h room = rw (append-nil done) (c, st, refl)
 write-sequences (s ∷ ss) done b c more st h room =
     let e = append_snoc done s ss in
@@ -405,7 +377,7 @@ write-sequences (s ∷ ss) done b c more st h room =
     (k.0, k.1, ap (λ x. added_all x (map sequence ss ++ more)) f ∙ k.2)
 
 write-events : (es done : List Entry) (ss : List (List ℕ)) (b c : List ℕ) → Stands done ss b c → Holds (done ++ es) ss → 12 + 20 * length (done ++ es) + 16 * length ss ≤ length b
-    → (d : List ℕ) × Stands (done ++ es) ss b d × (added_all (Taken (many done ss), c) (map event es) ≡ (Taken (many (done ++ es) ss), d))
+    → (d : List ℕ) × Stands (done ++ es) ss b d × (added_all (Ok (many done ss), c) (map event es) ≡ (Ok (many (done ++ es) ss), d))
 write-events [] done ss b c st h room = rw (append-nil done) (c, st, refl)
 write-events (x ∷ es) done ss b c st h room =
     let e = append_snoc done x es in
@@ -429,7 +401,7 @@ writes-all es ss b h k room =
     let g : Holds [] ss = record { events = omega arith; sequences = h.sequences; long = h.long; named = refl } in
     let s = write-sequences ss [] b b (map event es) (first b) g (omega arith) in
     let t = write-events es [] ss b s.0 s.1 h (omega arith) in
-    s.2 ∙ t.2 ∙ ap (λ x. (Taken (many es ss), x)) (t.1.shown (omega arith))
+    s.2 ∙ t.2 ∙ ap (λ x. (Ok (many es ss), x)) (t.1.shown (omega arith))
 
 -- ---- a paper that is read and written again
 
@@ -441,8 +413,8 @@ accepted : (p : List ℕ) (n : ℕ) → paper_of p ≡ read.Count n → Accepted
 accepted p n = go (paper-read p)
   where
     go : {r : Read} → PaperRead p r → r ≡ read.Count n → Accepted p
-    go (broken offset m q h) e = let z : ◌≡◌ {A = ℕ} 0 1 = cc in absurd (omega arith)
-    go (empty h k) e = let z : ◌≡◌ {A = ℕ} 0 1 = cc in absurd (omega arith)
+    go (broken offset m q h) e = cc
+    go (empty h k) e = cc
     go (some f k) e = record { paper = f; some-events = k }
 
 pub written-again : WrittenAgain

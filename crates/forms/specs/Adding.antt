@@ -1,5 +1,5 @@
 -- A writer of papers: what a call answers, and the buffer after it. "§3: .." are the words of request §3. Assumes nothing.
-use Rattle.std.specs.Prelude.{ℕ, ◌+◌, ◌*◌, Bool, cond, not, ◌&&◌, List, [], ◌∷◌, ◌++◌, length, take, drop, eqb, leb, ltb}
+use Rattle.std.specs.Prelude.{ℕ, ◌+◌, ◌*◌, Bool, cond, not, ◌&&◌, List, [], ◌∷◌, ◌++◌, length, take, drop, eqb, leb, ltb, Result, Ok, Err}
 use Rattle.locks.specs.Lists.{is_zero}
 use Rattle.papers.specs.Bytes.{sixteens_from}
 use Rattle.papers.specs.Layout.{event_count, sequence_count, paper_fits}
@@ -9,8 +9,6 @@ use Rattle.forms.specs.Form.{length_of, paper_bytes}
 use Rattle.forms.specs.declared.items.Writer.{Writer}
 use Rattle.forms.specs.declared.items.Refusal.{Refusal}
 use Rattle.forms.specs.declared.items.Refusal.TheVariants.{Badpaper, Order, Full, Noroom}
-use Rattle.forms.specs.declared.items.Added.{Added}
-use Rattle.forms.specs.declared.items.Added.TheVariants.{Taken, Refused}
 
 -- §3: "badpaper 15", "order 26", "full 20", "noroom 18"
 abbrev pub number_of : Refusal → ℕ
@@ -68,6 +66,10 @@ is_full w (event e) = leb 1000 w.events
 
 -- ---- a call
 
+-- the writer after an accepted call, or the refusal
+abbrev pub Added : Type 0
+Added = Result Writer Refusal
+
 abbrev pub entries_with : List Entry → Item → List Entry
 entries_with es (sequence s) = es
 entries_with es (event e) = es ++ e ∷ []
@@ -84,22 +86,22 @@ in_front p buffer = p ++ drop (length p) buffer
 unfoldable pub laid_out : List Entry → List (List ℕ) → List ℕ → Added × List ℕ
 laid_out es ss buffer =
     cond (ltb (length buffer) (length (paper_bytes es ss)))
-    (Refused Noroom, buffer)
-    (Taken (counts (length es) (length ss)), in_front (paper_bytes es ss) buffer)
+    (Err Noroom, buffer)
+    (Ok (counts (length es) (length ss)), in_front (paper_bytes es ss) buffer)
 
 -- §3: "Refusals, in this order, each leaving writer and buffer untouched": the answer, and the buffer after it
 unfoldable pub added : Writer → List ℕ → Item → Added × List ℕ
 added w buffer i =
-    cond (is_broken w buffer) (Refused Badpaper, buffer)
-    (cond (is_misplaced w i) (Refused Order, buffer)
-    (cond (is_full w i) (Refused Full, buffer)
+    cond (is_broken w buffer) (Err Badpaper, buffer)
+    (cond (is_misplaced w i) (Err Order, buffer)
+    (cond (is_full w i) (Err Full, buffer)
     (laid_out (entries_with (entries_in w buffer) i) (sequences_with (sequences_in w buffer) i) buffer)))
 
 -- ---- calls one after another, up to the first refusal
 
 abbrev pub next : Added × List ℕ → Item → Added × List ℕ
-next (Taken w, buffer) i = added w buffer i
-next (Refused r, buffer) i = (Refused r, buffer)
+next (Ok w, buffer) i = added w buffer i
+next (Err r, buffer) i = (Err r, buffer)
 
 abbrev pub added_all : Added × List ℕ → List Item → Added × List ℕ
 added_all x [] = x

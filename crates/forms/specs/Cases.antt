@@ -1,15 +1,13 @@
 -- A writer's calls, written out: the README's paper call by call, each refusal and its neighbour. Assumes nothing.
-use Rattle.std.specs.Prelude.{ℕ, ◌≡◌, List, [], ◌∷◌, ◌++◌, map, replicate}
+use Rattle.std.specs.Prelude.{ℕ, ◌≡◌, List, [], ◌∷◌, ◌++◌, map, replicate, Ok, Err}
 use Prim.Native.String.{String}
 use Rattle.papers.specs.Cases.{two_events}
 use Rattle.papers.specs.declared.entries.Entry.{Entry}
 use Rattle.forms.specs.declared.items.Writer.{Writer}
 use Rattle.forms.specs.declared.items.Refusal.{Refusal}
 use Rattle.forms.specs.declared.items.Refusal.TheVariants.{Badpaper, Order, Full, Noroom}
-use Rattle.forms.specs.declared.items.Added.{Added}
-use Rattle.forms.specs.declared.items.Added.TheVariants.{Taken, Refused}
 use Rattle.forms.specs.Form.{entry_bytes, paper_header, paper_bytes}
-use Rattle.forms.specs.Adding.{Item, sequence, event, counts, new_writer, added, added_all}
+use Rattle.forms.specs.Adding.{Item, sequence, event, counts, new_writer, Added, added, added_all}
 
 -- ---- a paper with a different byte in each place
 
@@ -36,9 +34,9 @@ pub record FormCases : Type 0 where
   -- both bytes of each number: the header of the longest paper
   pub longest : paper_header 1000 64 ≡ 0 ∷ 1 ∷ 3 ∷ 232 ∷ 0 ∷ 12 ∷ 0 ∷ 64 ∷ 78 ∷ 44 ∷ 82 ∷ 44 ∷ []
   -- "the sequences and then the events .. a complete paper", and not a byte behind it
-  pub all : added_all (Taken new_writer, replicate 86 0x77) two_items ≡ (Taken (counts 2 2), two_events ++ 0x77 ∷ 0x77 ∷ [])
+  pub all : added_all (Ok new_writer, replicate 86 0x77) two_items ≡ (Ok (counts 2 2), two_events ++ 0x77 ∷ 0x77 ∷ [])
   -- up to the first refusal: a byte short for the last of them
-  pub short : (added_all (Taken new_writer, replicate 83 0x77) two_items).0 ≡ Refused Noroom
+  pub short : (added_all (Ok new_writer, replicate 83 0x77) two_items).0 ≡ Err Noroom
 
 -- ---- calls
 
@@ -57,11 +55,11 @@ abbrev pub should : Call → Added × List ℕ
 should c = (c.answer, c.after)
 
 abbrev taken : String → Writer → List ℕ → Item → Writer → List ℕ → Call
-taken name w b i w' b' = record { name = name; writer = w; buffer = b; item = i; answer = Taken w'; after = b' }
+taken name w b i w' b' = record { name = name; writer = w; buffer = b; item = i; answer = Ok w'; after = b' }
 
 -- with the buffer as it was
 abbrev refused : String → Writer → List ℕ → Item → Refusal → Call
-refused name w b i r = record { name = name; writer = w; buffer = b; item = i; answer = Refused r; after = b }
+refused name w b i r = record { name = name; writer = w; buffer = b; item = i; answer = Err r; after = b }
 
 -- the README's paper: "sequence TABLE", then six lines
 abbrev TABLE : List ℕ
@@ -213,10 +211,10 @@ ticks n = paper_bytes (replicate n tick) []
 
 pub record LastEvents : Type 0 where
   -- "full 20 at event 1,001"
-  pub at-1000 : added (counts 999 0) (ticks 999 ++ replicate 21 7) (event tick) ≡ (Taken (counts 1000 0), ticks 1000 ++ 7 ∷ [])
-  pub at-1001 : added (counts 1000 0) (ticks 1000 ++ replicate 21 7) (event tick) ≡ (Refused Full, ticks 1000 ++ replicate 21 7)
+  pub at-1000 : added (counts 999 0) (ticks 999 ++ replicate 21 7) (event tick) ≡ (Ok (counts 1000 0), ticks 1000 ++ 7 ∷ [])
+  pub at-1001 : added (counts 1000 0) (ticks 1000 ++ replicate 21 7) (event tick) ≡ (Err Full, ticks 1000 ++ replicate 21 7)
   -- 20 before 18, and 26 before 20
-  pub without-room : added (counts 1000 0) (ticks 1000) (event tick) ≡ (Refused Full, ticks 1000)
-  pub misnamed : added (counts 1000 0) (ticks 1000) (event (naming 1)) ≡ (Refused Order, ticks 1000)
+  pub without-room : added (counts 1000 0) (ticks 1000) (event tick) ≡ (Err Full, ticks 1000)
+  pub misnamed : added (counts 1000 0) (ticks 1000) (event (naming 1)) ≡ (Err Order, ticks 1000)
   -- event 1,000 a byte short
-  pub short : added (counts 999 0) (ticks 999 ++ replicate 19 7) (event tick) ≡ (Refused Noroom, ticks 999 ++ replicate 19 7)
+  pub short : added (counts 999 0) (ticks 999 ++ replicate 19 7) (event tick) ≡ (Err Noroom, ticks 999 ++ replicate 19 7)

@@ -1,5 +1,5 @@
 -- What is proved of a paper's bytes and of a writer, for every paper, writer, buffer and item. Assumes nothing.
-use Rattle.std.specs.Prelude.{ℕ, ◌+◌, ◌≤◌, ◌<◌, ◌≡◌, Bool, true, false, List, [], ◌∷◌, ◌++◌, map, ◌↔◌, length, get_or, take, drop, leb}
+use Rattle.std.specs.Prelude.{ℕ, ◌+◌, ◌≤◌, ◌<◌, ◌≡◌, Bool, true, false, List, [], ◌∷◌, ◌++◌, map, ◌↔◌, length, get_or, take, drop, leb, Ok, Err}
 use Rattle.locks.specs.Lists.{all}
 use Rattle.papers.specs.Bytes.{is_sixteen}
 use Rattle.papers.specs.Layout.{event_count, sequence_count, paper_fits}
@@ -12,10 +12,8 @@ use Rattle.papers.specs.declared.entries.Entry.{Entry}
 use Rattle.forms.specs.declared.items.Writer.{Writer}
 use Rattle.forms.specs.declared.items.Refusal.{Refusal}
 use Rattle.forms.specs.declared.items.Refusal.TheVariants.{Badpaper, Order, Full, Noroom}
-use Rattle.forms.specs.declared.items.Added.{Added}
-use Rattle.forms.specs.declared.items.Added.TheVariants.{Taken, Refused}
 use Rattle.forms.specs.Form.{paper_bytes, event_of}
-use Rattle.forms.specs.Adding.{number_of, Item, sequence, event, counts, new_writer, length_for, entries_in, sequences_in, entries_with, sequences_with, begins, is_broken, is_misplaced, is_full, in_front, added, added_all}
+use Rattle.forms.specs.Adding.{number_of, Item, sequence, event, counts, new_writer, length_for, entries_in, sequences_in, entries_with, sequences_with, begins, is_broken, is_misplaced, is_full, in_front, Added, added, added_all}
 
 -- ---- a paper is its events and its sequences
 
@@ -82,30 +80,30 @@ pub record Left (w : Writer) (b : List ℕ) (i : Item) (w' : Writer) (b' : List 
   pub sequences-then : sequences_in w' b' ≡ sequences_with (sequences_in w b) i
 
 abbrev pub EachLeaves : Type 0
-EachLeaves = (w w' : Writer) (b b' : List ℕ) (i : Item) → item_long i ≡ true → added w b i ≡ (Taken w', b') → Left w b i w' b'
+EachLeaves = (w w' : Writer) (b b' : List ℕ) (i : Item) → item_long i ≡ true → added w b i ≡ (Ok w', b') → Left w b i w' b'
 
 -- §3: "each leaving writer and buffer untouched": who is refused has the buffer as it was, and no writer is answered
 abbrev pub RefusedLeaves : Type 0
-RefusedLeaves = (w : Writer) (b b' : List ℕ) (i : Item) (r : Refusal) → added w b i ≡ (Refused r, b') → b' ≡ b
+RefusedLeaves = (w : Writer) (b b' : List ℕ) (i : Item) (r : Refusal) → added w b i ≡ (Err r, b') → b' ≡ b
 
 -- there is an answer to every call, of these five
 pub data Listed : Added → Type 0 where
-  taken : (w : Writer) → w.events ≤ 1000 → w.sequences ≤ 64 → 1 ≤ w.events + w.sequences → Listed (Taken w)
-  badpaper : Listed (Refused Badpaper)
-  order : Listed (Refused Order)
-  full : Listed (Refused Full)
-  noroom : Listed (Refused Noroom)
+  taken : (w : Writer) → w.events ≤ 1000 → w.sequences ≤ 64 → 1 ≤ w.events + w.sequences → Listed (Ok w)
+  badpaper : Listed (Err Badpaper)
+  order : Listed (Err Order)
+  full : Listed (Err Full)
+  noroom : Listed (Err Noroom)
 
 abbrev pub AllListed : Type 0
 AllListed = (w : Writer) (b : List ℕ) (i : Item) → Listed (added w b i).0
 
 -- §3: "Refusals, in this order": each is answered exactly when its reason holds and none before it does
 pub record InOrder : Type 0 where
-  pub badpaper : (w : Writer) (b : List ℕ) (i : Item) → ((added w b i).0 ≡ Refused Badpaper) ↔ (is_broken w b ≡ true)
-  pub order : (w : Writer) (b : List ℕ) (i : Item) → ((added w b i).0 ≡ Refused Order) ↔ ((is_broken w b ≡ false) × (is_misplaced w i ≡ true))
-  pub full : (w : Writer) (b : List ℕ) (i : Item) → ((added w b i).0 ≡ Refused Full) ↔ ((is_broken w b ≡ false) × (is_misplaced w i ≡ false) × (is_full w i ≡ true))
+  pub badpaper : (w : Writer) (b : List ℕ) (i : Item) → ((added w b i).0 ≡ Err Badpaper) ↔ (is_broken w b ≡ true)
+  pub order : (w : Writer) (b : List ℕ) (i : Item) → ((added w b i).0 ≡ Err Order) ↔ ((is_broken w b ≡ false) × (is_misplaced w i ≡ true))
+  pub full : (w : Writer) (b : List ℕ) (i : Item) → ((added w b i).0 ≡ Err Full) ↔ ((is_broken w b ≡ false) × (is_misplaced w i ≡ false) × (is_full w i ≡ true))
   pub noroom : (w : Writer) (b : List ℕ) (i : Item) → item_long i ≡ true
-      → ((added w b i).0 ≡ Refused Noroom) ↔ ((is_broken w b ≡ false) × (is_misplaced w i ≡ false) × (is_full w i ≡ false) × (length b < length_for (grown w i)))
+      → ((added w b i).0 ≡ Err Noroom) ↔ ((is_broken w b ≡ false) × (is_misplaced w i ≡ false) × (is_full w i ≡ false) × (length b < length_for (grown w i)))
 
 -- what each call gives where a paper of the writer's counts stands, with r behind it: §3: "full 20 at event 1,001 or sequence 65", "noroom 18 when the paper so far would not fit"
 module _ (es : List Entry) (ss : List (List ℕ)) (r : List ℕ) where
@@ -113,19 +111,19 @@ module _ (es : List Entry) (ss : List (List ℕ)) (r : List ℕ) where
   gives i = added (counts (length es) (length ss)) (paper_bytes es ss ++ r) i
 
   abbrev refuses : Refusal → Added × List ℕ
-  refuses x = (Refused x, paper_bytes es ss ++ r)
+  refuses x = (Err x, paper_bytes es ss ++ r)
 
   pub record OnAPaper : Type 0 where
     pub misnamed : (e : Entry) → length ss < e.sequence → gives (event e) ≡ refuses Order
     pub event-1001 : (e : Entry) → e.sequence ≤ length ss → length es ≡ 1000 → gives (event e) ≡ refuses Full
     pub event-short : (e : Entry) → e.sequence ≤ length ss → length es < 1000 → length r < 20 → gives (event e) ≡ refuses Noroom
     pub event-more : (e : Entry) → e.sequence ≤ length ss → length es < 1000 → 20 ≤ length r
-        → gives (event e) ≡ (Taken (counts (length es + 1) (length ss)), paper_bytes (es ++ e ∷ []) ss ++ drop 20 r)
+        → gives (event e) ≡ (Ok (counts (length es + 1) (length ss)), paper_bytes (es ++ e ∷ []) ss ++ drop 20 r)
     pub late : (s : List ℕ) → 1 ≤ length es → gives (sequence s) ≡ refuses Order
     pub sequence-65 : (s : List ℕ) → length es ≡ 0 → length ss ≡ 64 → gives (sequence s) ≡ refuses Full
     pub sequence-short : (s : List ℕ) → is_sixteen s ≡ true → length es ≡ 0 → length ss < 64 → length r < 16 → gives (sequence s) ≡ refuses Noroom
     pub sequence-more : (s : List ℕ) → is_sixteen s ≡ true → length es ≡ 0 → length ss < 64 → 16 ≤ length r
-        → gives (sequence s) ≡ (Taken (counts (length es) (length ss + 1)), paper_bytes es (ss ++ s ∷ []) ++ drop 16 r)
+        → gives (sequence s) ≡ (Ok (counts (length es) (length ss + 1)), paper_bytes es (ss ++ s ∷ []) ++ drop 16 r)
 
 abbrev pub OnPapers : Type 0
 OnPapers = (es : List Entry) (ss : List (List ℕ)) (r : List ℕ) → Holds es ss → OnAPaper es ss r
@@ -147,10 +145,10 @@ items es ss = map sequence ss ++ map event es
 abbrev pub WritesAll : Type 0
 WritesAll =
     (es : List Entry) (ss : List (List ℕ)) (b : List ℕ) → Holds es ss → 1 ≤ length es + length ss → length (paper_bytes es ss) ≤ length b
-    → added_all (Taken new_writer, b) (items es ss) ≡ (Taken (counts (length es) (length ss)), in_front (paper_bytes es ss) b)
+    → added_all (Ok new_writer, b) (items es ss) ≡ (Ok (counts (length es) (length ss)), in_front (paper_bytes es ss) b)
 
 -- §3: "every accepted paper, read and written again, gives its own bytes"
 abbrev pub WrittenAgain : Type 0
 WrittenAgain =
     (p b : List ℕ) (n : ℕ) → Bytes p → paper_of p ≡ read.Count n → length p ≤ length b
-    → added_all (Taken new_writer, b) (items (entries_of p) (sequences_of p)) ≡ (Taken (counts (event_count p) (sequence_count p)), in_front p b)
+    → added_all (Ok new_writer, b) (items (entries_of p) (sequences_of p)) ≡ (Ok (counts (event_count p) (sequence_count p)), in_front p b)

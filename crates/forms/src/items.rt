@@ -1,24 +1,36 @@
-// What a writer of papers holds and answers.
+// What a writer of papers holds, and why it refuses.
+ghost use Rattle.std.specs.Prelude.{◌≡◌};
+ghost use Rattle.forms.specs.Adding.{length_for, number_of};
 
 // How many events and sequences the paper so far has.
-#[derive(Clone, Copy)]
+#[derive(Clone, Copy, Debug, Default, PartialEq, Eq)]
 pub struct Writer {
     pub events: u16,
     pub sequences: u16,
 }
 
-// The refusals of a writer.
-#[derive(Clone, Copy)]
-pub enum Refusal {
-    Badpaper,
-    Order,
-    Full,
-    Noroom,
+impl Writer {
+    // The bytes of the paper so far.
+    pub fn length(self) -> usize
+        ensures { result ≡ length_for self }
+    {
+        12 + 20 * usize::from(self.events) + 16 * usize::from(self.sequences)
+    }
 }
 
-// The writer after an accepted call, or the refusal.
-#[derive(Clone, Copy)]
-pub enum Added {
-    Taken(Writer),
-    Refused(Refusal),
+// The refusals of a writer, by their numbers.
+#[derive(Clone, Copy, Debug, PartialEq, Eq)]
+pub enum Refusal {
+    Badpaper = 15,
+    Order = 26,
+    Full = 20,
+    Noroom = 18,
+}
+
+impl Refusal {
+    pub fn number(self) -> u8
+        ensures { result ≡ number_of self }
+    {
+        self as u8
+    }
 }

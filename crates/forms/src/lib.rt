@@ -1,4 +1,4 @@
-// Types of a paper writer. Nothing runs here: the crate defines the bytes of a paper and the writer's rule, and proves theorems about them.
+// Types of a paper writer. The crate defines the bytes of a paper and the writer's rule, and proves theorems about them.
 #![tactic(auto)]
 
 pub mod items;

@@ -1,15 +1,18 @@
 -- What the two calls of a writer find and leave. Assumes nothing.
-use Prim.Native.Nat.{ℕ, ◌+◌, ◌*◌, ◌≤◌, ◌<◌}
+use Prim.Native.Nat.{ℕ, ◌+◌, ◌-◌, ◌*◌, ◌≤◌, ◌<◌}
 use native.Mathlib.Omega.{arith}
-use mathlib.Core.Path.{◌≡◌, sym, ◌∙◌}
-use mathlib.Core.Bool.{false, ◌&&◌}
+use mathlib.Core.Path.{◌≡◌, refl, sym, ap, ◌∙◌}
+use mathlib.Core.Bool.{Bool, true, false, ◌&&◌}
 use mathlib.Core.List.{List, [], ◌∷◌, ◌++◌, map-append, append_assoc, append-nil}
 use lib.ListN.{length, take, drop, length-append}
-use lib.Dec.{eqb}
+use lib.Dec.{eqb, ltb}
 use lib.Seq.{take_all, length-take-le}
-use borrow.Author.Tests.{eqb-true, eqb-false, eq-eqb, ne_eqb, lt-ltb, le-ltb, lt-leb}
+use borrow.Author.Tests.{not-false, eqb-true, eqb-false, eq-eqb, ne_eqb, ltb-false}
+use Rattle.std.specs.Prelude.{Result, Ok, Err, Option, None, Some, MatchOption, ⊤}
+use Rattle.std.specs.Borrow.{Bor}
+use Rattle.std.specs.Slice.{IsGetRangeResult}
+use Rattle.locks.specs.Lists.{is_zero}
 use Rattle.locks.proofs.Tests.{cases, off, and_split}
-use Rattle.locks.proofs.Lists.{all_end}
 use Rattle.papers.specs.Bytes.{sixteens_from, is_sixteen}
 use Rattle.papers.specs.Layout.{event_count, sequence_count, paper_fits}
 use Rattle.papers.specs.Fields.{paper_of}
@@ -19,13 +22,14 @@ use Rattle.papers.specs.declared.layout.Read.{Read}
 use Rattle.papers.proofs.Runs.{sixteens-count, joined-both}
 use Rattle.papers.proofs.Files.{Paper, PaperRead, broken, empty, some, paper-has, paper-read}
 use Rattle.forms.specs.declared.items.Writer.{Writer}
-use Rattle.forms.specs.declared.items.Refusal.TheVariants.{Noroom}
-use Rattle.forms.specs.declared.items.Added.TheVariants.{Taken, Refused}
+use Rattle.forms.specs.declared.items.Refusal.{Refusal}
 use Rattle.forms.specs.Form.{entry_bytes, paper_header, paper_bytes}
-use Rattle.forms.specs.Adding.{sequence, event, length_for, has_counts, begins, is_broken, laid_out, added}
-use Rattle.forms.specs.Promises.{Bytes}
+use Rattle.forms.specs.Adding.{Item, sequence, event, counts, length_for, has_counts, begins, is_broken, is_misplaced, is_full, laid_out, Added, added}
+use Rattle.forms.specs.Promises.{Bytes, item_long, grown}
 use Rattle.writer.specs.Reading.{finds}
-use Rattle.forms.proofs.Laws.{entries-count, sixteens-sixteen, entries-run, sixteens-run, run_take, paper-long}
+use Rattle.writer.specs.Refusing.{checked}
+use Rattle.forms.proofs.Laws.{entries-count, entries-run, sixteens-run, run_take}
+use Rattle.forms.proofs.Promises.{es', ss', grew, grown-long}
 
 -- ---- the buffer begins with the writer's paper
 
@@ -66,6 +70,14 @@ module _ (w : Writer) (b : List ℕ) where
   unfolding begins
   begins-read h = counts-read w (take (length_for w) b) (length-take-le (length_for w) b h)
 
+  -- what is got of the buffer, if it is long enough, is asked
+  pub begins-got : (got : Option (Bor (List ℕ))) (t : Bool) (Asked : Bor (List ℕ) → Type 0) → ((p : Bor (List ℕ)) → Asked p → t ≡ finds (paper_of p.now) w.events)
+      → IsGetRangeResult b 0 (length_for w) got → MatchOption got (t ≡ false) Asked → t ≡ begins w b
+  begins-got None t Asked k h e = let l : length b < length_for w = omega (arith, h.0) in e ∙ sym (begins-short l)
+  begins-got (Some p) t Asked k h e =
+      let n : length_for w - 0 ≡ length_for w = omega arith in
+      rw (rw n at h.0.2) at (k p e) ∙ begins-read h.0.1
+
 -- ---- what is put together is the paper
 
 module _ (o : List ℕ) (b : Bytes o) where
@@ -93,75 +105,64 @@ unfolding paper_bytes
 sequence-laid o s m h =
     rw (length-append, sixteens-count o 12 m, joined-both, sixteens-run o 12 m, run_take o 12 (16 * m) h, append-nil s) (simp (append_assoc, append-nil))
 
--- ---- the two ends of a call
+-- ---- the refusals, and what an item makes of the paper
 
-module _ (es : List Entry) (ss : List (List ℕ)) (b : List ℕ) (n : ℕ) (l : length (paper_bytes es ss) ≡ n) where
-  laid-not : length b < n → laid_out es ss b ≡ (Refused Noroom, b)
-  unfolding laid_out
-  laid-not h = rw (l, lt-ltb (length b) n h)
+-- what is so where nothing is refused
+pub record Passed (w : Writer) (b : List ℕ) (misplaced full : Bool) (more : ℕ) : Type 0 where
+  pub whole : is_broken w b ≡ false
+  pub placed : misplaced ≡ false
+  pub few : full ≡ false
+  pub room : length_for w + more ≤ length b
 
-  laid-taken : (x : List ℕ) (w : Writer) → w ≡ record { events = length es; sequences = length ss } → paper_bytes es ss ≡ x → n ≤ length b → laid_out es ss b ≡ (Taken w, x ++ drop n b)
-  unfolding laid_out
-  laid-taken x w f e h = rw (f, ← e, l, le-ltb (length b) n h)
+pub passed : (w : Writer) (b : List ℕ) (misplaced full : Bool) (more : ℕ) {u : ⊤} → Ok u ≡ checked w b misplaced full more → Passed w b misplaced full more
+passed w b true full more e = cases (is_broken w b) (λ t. let f = rw t at e in cc) (λ t. let f = rw t at e in cc)
+passed w b false true more e = cases (is_broken w b) (λ t. let f = rw t at e in cc) (λ t. let f = rw t at e in cc)
+passed w b false false more e =
+    cases (is_broken w b)
+    (λ t. let f = rw t at e in cc)
+    (λ t. cases (ltb (length b) (length_for w + more))
+    (λ r. let f = rw (t, r) at e in cc)
+    (λ r. record { whole = t; placed = refl; few = refl; room = ltb-false (length b) (length_for w + more) r }))
 
-module _ (w : Writer) (o : List ℕ) (t : is_broken w o ≡ false) where
-  -- a sequence
-  module _ (s : List ℕ) (l : length s ≡ 16) (z : w.events ≡ 0) (f : w.sequences < 64) where
-    many : length (sixteens_from o 12 w.sequences ++ s ∷ []) ≡ w.sequences + 1
-    many = rw (length-append, sixteens-count o 12 w.sequences)
+module _ (w : Writer) (b : List ℕ) (i : Item) (long : item_long i ≡ true) (more : ℕ) (grows : length_for (grown w i) ≡ length_for w + more) where
+  abbrev tested : Result ⊤ Refusal
+  tested = checked w b (is_misplaced w i) (is_full w i) more
 
-    long : length (paper_bytes [] (sixteens_from o 12 w.sequences ++ s ∷ [])) ≡ 12 + 16 * w.sequences + 16
-    long = paper-long [] (sixteens_from o 12 w.sequences ++ s ∷ []) (all_end is_sixteen (sixteens_from o 12 w.sequences) s (sixteens-sixteen o 12 w.sequences) (eq-eqb (length s) 16 l)) ∙ rw many (omega arith)
+  abbrev p : List ℕ
+  p = paper_bytes (es' w b i) (ss' w b i)
 
-    pub sequence-not : length o < 12 + 16 * w.sequences + 16 → added w o (sequence s) ≡ (Refused Noroom, o)
-    unfolding added
-    sequence-not h =
-        rw (t, eq-eqb w.events 0 z, lt-leb 64 w.sequences f, z)
-        (laid-not [] (sixteens_from o 12 w.sequences ++ s ∷ []) o (12 + 16 * w.sequences + 16) long h)
+  abbrev answered : Result ⊤ Refusal → Added × List ℕ
+  answered (Err r) = (Err r, b)
+  answered (Ok u) = (Ok (grown w i), p ++ drop (length_for w + more) b)
 
-    pub sequence-taken : 12 + 16 * w.sequences + 16 ≤ length o
-        → added w o (sequence s)
-        ≡ (Taken (record { events = 0; sequences = w.sequences + 1 }), paper_header 0 (w.sequences + 1) ++ take (16 * w.sequences) (drop 12 o) ++ s ++ drop (12 + 16 * w.sequences + 16) o)
-    unfolding added
-    sequence-taken h =
-        rw (t, eq-eqb w.events 0 z, lt-leb 64 w.sequences f, z)
-        (laid-taken [] (sixteens_from o 12 w.sequences ++ s ∷ []) o (12 + 16 * w.sequences + 16) long
-        (paper_header 0 (w.sequences + 1) ++ take (16 * w.sequences) (drop 12 o) ++ s) (record { events = 0; sequences = w.sequences + 1 })
-        (rw many) (sequence-laid o s w.sequences (omega arith)) h)
+  added-answered : added w b i ≡ answered tested
+  unfolding added laid_out
+  added-answered =
+      cases (is_broken w b) (λ t. rw t)
+      (λ t. cases (is_misplaced w i) (λ m. rw (t, m))
+      (λ m. cases (is_full w i) (λ f. rw (t, m, f))
+      (λ f. rw (t, m, f, grown-long w b i long, grows, grew w b i)
+      (cases (ltb (length b) (length_for w + more)) (λ r. rw r) (λ r. rw r)))))
 
-  -- an event
-  module _ (b : Bytes o) (e : Entry) (g : e.sequence ≤ w.sequences) (f : w.events < 1000) where
-    abbrev es : List Entry
-    es = entries_from o 12 w.events ++ e ∷ []
+  pub refused : {r : Refusal} → Err r ≡ tested → (Err r, b) ≡ added w b i
+  refused e = ap answered e ∙ sym added-answered
 
-    abbrev ss : List (List ℕ)
-    ss = sixteens_from o (12 + 20 * w.events) w.sequences
+  pub taken : {u : ⊤} → Ok u ≡ tested → (x : List ℕ) → p ≡ x → (Ok (grown w i), x ++ drop (length_for w + more) b) ≡ added w b i
+  taken e x q = rw (← q) (ap answered e ∙ sym added-answered)
 
-    events-many : length es ≡ w.events + 1
-    events-many = rw (length-append, entries-count o 12 w.events)
+module _ (w : Writer) (b : List ℕ) where
+  pub event-taken : Bytes b → (e : Entry) {u : ⊤} → Ok u ≡ checked w b (is_misplaced w (event e)) (is_full w (event e)) 20
+      → (Ok (counts (w.events + 1) w.sequences), paper_header (w.events + 1) w.sequences ++ take (20 * w.events) (drop 12 b) ++ entry_bytes e ++ take (16 * w.sequences) (drop (12 + 20 * w.events) b) ++ drop (12 + 20 * w.events + (20 + 16 * w.sequences)) b)
+      ≡ added w b (event e)
+  event-taken h e t =
+      let k = passed w b _ _ 20 t in
+      let n : length_for w + 20 ≡ 12 + 20 * w.events + (20 + 16 * w.sequences) = omega arith in
+      rw n at (taken w b (event e) refl 20 (omega arith) t _ (event-laid b h w.events w.sequences e (omega arith)))
 
-    sequences-many : length ss ≡ w.sequences
-    sequences-many = sixteens-count o (12 + 20 * w.events) w.sequences
-
-    events-long : length (paper_bytes es ss) ≡ 12 + 20 * w.events + (20 + 16 * w.sequences)
-    events-long = paper-long es ss (sixteens-sixteen o (12 + 20 * w.events) w.sequences) ∙ rw (events-many, sequences-many) (omega arith)
-
-    pub event-not : length o < 12 + 20 * w.events + (20 + 16 * w.sequences) → added w o (event e) ≡ (Refused Noroom, o)
-    unfolding added
-    event-not h =
-        rw (t, le-ltb w.sequences e.sequence g, lt-leb 1000 w.events f)
-        (laid-not es ss o (12 + 20 * w.events + (20 + 16 * w.sequences)) events-long h)
-
-    pub event-taken : 12 + 20 * w.events + (20 + 16 * w.sequences) ≤ length o
-        → added w o (event e)
-        ≡ (
-          Taken (record { events = w.events + 1; sequences = w.sequences }),
-          paper_header (w.events + 1) w.sequences ++ take (20 * w.events) (drop 12 o) ++ entry_bytes e ++ take (16 * w.sequences) (drop (12 + 20 * w.events) o) ++ drop (12 + 20 * w.events + (20 + 16 * w.sequences)) o,
-        )
-    unfolding added
-    event-taken h =
-        rw (t, le-ltb w.sequences e.sequence g, lt-leb 1000 w.events f)
-        (laid-taken es ss o (12 + 20 * w.events + (20 + 16 * w.sequences)) events-long
-        (paper_header (w.events + 1) w.sequences ++ take (20 * w.events) (drop 12 o) ++ entry_bytes e ++ take (16 * w.sequences) (drop (12 + 20 * w.events) o))
-        (record { events = w.events + 1; sequences = w.sequences })
-        (rw (events-many, sequences-many)) (event-laid o b w.events w.sequences e (omega arith)) h)
+  pub sequence-taken : (s : List ℕ) → is_sixteen s ≡ true → {u : ⊤} → Ok u ≡ checked w b (is_misplaced w (sequence s)) (is_full w (sequence s)) 16
+      → (Ok (counts w.events (w.sequences + 1)), paper_header 0 (w.sequences + 1) ++ take (16 * w.sequences) (drop 12 b) ++ s ++ drop (12 + 16 * w.sequences + 16) b) ≡ added w b (sequence s)
+  sequence-taken s l t =
+      let k = passed w b _ _ 16 t in
+      let z : w.events ≡ 0 = eqb-true w.events 0 (not-false (is_zero w.events) k.placed) in
+      let n : length_for w + 16 ≡ 12 + 16 * w.sequences + 16 = omega arith in
+      rw n at (taken w b (sequence s) l 16 (omega arith) t (paper_header 0 (w.sequences + 1) ++ take (16 * w.sequences) (drop 12 b) ++ s) (rw z (sequence-laid b s w.sequences (omega arith))))

@@ -1,24 +1,14 @@
 // The two calls of a writer, with their refusals in their order.
 ghost use Rattle.std.specs.Prelude.{◌≡◌};
-ghost use Rattle.forms.specs.Adding.{number_of, event, sequence, begins, is_broken, added};
+ghost use Rattle.forms.specs.Adding.{event, sequence, begins, is_broken, added};
 ghost use Rattle.writer.specs.Reading.{finds};
+ghost use Rattle.writer.specs.Refusing.{checked};
 
 use crate::laying::*;
 use forms::items::*;
 use papers::entries::Entry;
 use papers::layout::Read;
 use papers::{layout, paper};
-
-pub fn number_of(r: Refusal) -> u8
-    ensures { result ≡ number_of r }
-{
-    match r {
-        Refusal::Badpaper => 15,
-        Refusal::Order => 26,
-        Refusal::Full => 20,
-        Refusal::Noroom => 18,
-    }
-}
 
 // Whether the reader found a sound paper with so many events; without any it is refused as blank.
 fn finds(read: Read, events: u16) -> bool
@@ -39,69 +29,59 @@ fn finds(read: Read, events: u16) -> bool
 fn begins_with(w: Writer, out: &[u8]) -> bool
     ensures { result ≡ begins w out.now }
 {
-    let events = w.events;
-    let length = 12 + 20 * (events as usize) + 16 * (w.sequences as usize);
-    if out.len() < length {
-        return false;
-    }
-    finds(paper(&out[..length]), events)
+    out.get(..w.length())
+        .is_some_and(|p| finds(paper(p), w.events))
 }
 
 // Whether the writer had its first call and the buffer does not begin with its paper.
+#[tactic(auto, unfolding(forms::specs::Adding::is_broken))]
 fn is_broken(w: Writer, out: &[u8]) -> bool
     ensures { result ≡ is_broken w out.now }
 {
-    if (w.events == 0) & (w.sequences == 0) {
-        return false;
-    }
-    !begins_with(w, out)
+    w != Writer::default() && !begins_with(w, out)
 }
 
-pub fn add_sequence(w: Writer, out: &mut [u8], s: [u8; 16]) -> Added
+// The four refusals, in their order: the item's kind says whether it is misplaced or one too many, and how many bytes it adds.
+fn check(w: Writer, out: &[u8], misplaced: bool, full: bool, more: u16) -> Result<(), Refusal>
+    ensures { result ≡ checked w out.now misplaced full more }
+{
+    if is_broken(w, out) {
+        return Err(Refusal::Badpaper);
+    }
+    if misplaced {
+        return Err(Refusal::Order);
+    }
+    if full {
+        return Err(Refusal::Full);
+    }
+    if out.len() < w.length() + usize::from(more) {
+        return Err(Refusal::Noroom);
+    }
+    Ok(())
+}
+
+pub fn add_sequence(w: Writer, out: &mut [u8], s: [u8; 16]) -> Result<Writer, Refusal>
     ensures { (result, out.new) ≡ added w out.old (sequence s) }
 {
-    let sequences = w.sequences;
-    if is_broken(w, out) {
-        return Added::Refused(Refusal::Badpaper);
-    }
-    if w.events != 0 {
-        return Added::Refused(Refusal::Order);
-    }
-    if 64 <= sequences {
-        return Added::Refused(Refusal::Full);
-    }
-    if out.len() < 12 + 16 * (sequences as usize) + 16 {
-        return Added::Refused(Refusal::Noroom);
-    }
-    lay_sequence(out, sequences, s);
-    let more = sequences + 1;
-    Added::Taken(Writer {
-        events: 0,
-        sequences: more,
+    let misplaced = w.events != 0;
+    let full = 64 <= w.sequences;
+    check(w, out, misplaced, full, 16)?;
+    lay_sequence(out, w.sequences, s);
+    Ok(Writer {
+        sequences: w.sequences + 1,
+        ..w
     })
 }
 
-pub fn add_event(w: Writer, out: &mut [u8], e: Entry) -> Added
+pub fn add_event(w: Writer, out: &mut [u8], e: Entry) -> Result<Writer, Refusal>
     ensures { (result, out.new) ≡ added w out.old (event e) }
 {
-    let events = w.events;
-    let sequences = w.sequences;
-    if is_broken(w, out) {
-        return Added::Refused(Refusal::Badpaper);
-    }
-    if sequences < e.sequence {
-        return Added::Refused(Refusal::Order);
-    }
-    if 1000 <= events {
-        return Added::Refused(Refusal::Full);
-    }
-    if out.len() < 12 + 20 * (events as usize) + (20 + 16 * (sequences as usize)) {
-        return Added::Refused(Refusal::Noroom);
-    }
-    lay_event(out, events, sequences, e);
-    let more = events + 1;
-    Added::Taken(Writer {
-        events: more,
-        sequences: sequences,
+    let misplaced = w.sequences < e.sequence;
+    let full = 1000 <= w.events;
+    check(w, out, misplaced, full, 20)?;
+    lay_event(out, w.events, w.sequences, e);
+    Ok(Writer {
+        events: w.events + 1,
+        ..w
     })
 }

@@ -5,4 +5,4 @@ mod adding;
 mod laying;
 mod records;
 
-pub use crate::adding::{add_event, add_sequence, number_of};
+pub use crate::adding::{add_event, add_sequence};

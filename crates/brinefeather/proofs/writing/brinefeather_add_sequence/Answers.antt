@@ -1,11 +1,9 @@
 -- `brinefeather::writing::brinefeather_add_sequence` meets its contract. Assumes nothing.
-use mathlib.Core.Path.{◌∙◌, ap}
+use Rattle.std.proofs.Common.{◌∙◌, ap}
 use Rattle.brinefeather.specs.Desk.{added_number}
 use Rattle.brinefeather.proofs.writing.brinefeather_add_sequence.Goals as goal
 
 pub returns : goal.returns
 returns c =
-    let w = c.writer_of in
-    let i = c.sequence_of-s in
-    let k = rw (w.ensures, i.ensures) at c.add_sequence.ensures in
+    let k = rw (c.writer_of.ensures, c.sequence_of.ensures) at c.add_sequence.ensures in
     (c.added_number.ensures ∙ ap (λ y. added_number y.0) k, ap (λ y. y.1) k)

@@ -1,17 +1,7 @@
 -- `writer::adding::begins_with` meets its contract. Assumes nothing.
-use native.Mathlib.Omega.{arith}
-use mathlib.Core.Path.{sym}
-use lib.Seq.{length-take-le}
-use Rattle.writer.proofs.Calls.{begins-short, begins-read}
+use Rattle.std.proofs.Common.{rules}
+use Rattle.writer.proofs.Calls.{begins-got}
 use Rattle.writer.proofs.adding.begins_with.Goals as goal
 
-pub returns-then-out-length : goal.returns-then-out-length
-returns-then-out-length c = let a = c.args in sym (begins-short a.w a.out.now (omega arith))
-
-pub slice_bounds-paper-end : goal.slice_bounds-paper-end
-slice_bounds-paper-end c = sym (length-take-le _ _ (omega arith))
-
 pub returns : goal.returns
-returns c =
-    let a = c.args in
-    rw (c.finds.ensures, c.paper.ensures) (begins-read a.w a.out.now (omega arith))
+returns c = begins-got c.args.w c.args.out.now c.get.result _ _ (λ p k. search rules) (rw c.length.ensures at c.get.ensures.lookup) c.is_some_and.ensures
