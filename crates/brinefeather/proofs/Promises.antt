@@ -12,11 +12,10 @@ use Rattle.forms.specs.declared.items.Refusal.TheVariants as writer
 use Rattle.forms.specs.Adding.{length_for, Added}
 use Rattle.forms.specs.Promises.{Listed, taken, badpaper, order, full, noroom}
 use Rattle.forms.proofs.Promises.{all_listed}
-use Rattle.marker.specs.declared.marks.Marked.TheVariants as mark
+use Rattle.std.specs.Prelude.{Ok}
 use Rattle.marker.specs.Promises.{MarkListed, KeyListed, counts, writes, badpaper, blank, badsheet, noroom}
-use Rattle.marker.specs.declared.keys.Keyed.{Keyed}
-use Rattle.marker.specs.declared.keys.Keyed.TheVariants as key
-use Rattle.marker.specs.declared.marks.Marked.{Marked}
+use Rattle.marker.specs.Key.{Keyed}
+use Rattle.marker.specs.Mark.{Marked, worth}
 use Rattle.marker.proofs.Promises.{marks-listed, keys-listed, mark-refused, key-refused}
 use Rattle.brinefeather.specs.Desk.{mark_number, key_number, writer_number, writer_of, added_number, is_length, refused_of, mark_refusal, key_refusal, added_refusal}
 use Rattle.brinefeather.specs.Promises.{OneNumber, NumbersDiffer, WritersReadBack, RefusalsTold}
@@ -48,7 +47,7 @@ marks-differ (badsheet o l) blank e = absurd (omega arith)
 marks-differ (badsheet o l) (badsheet o' l') e = let d : o ≡ o' = omega arith in rw d
 
 keys-differ : {room other : ℕ} {a b : Keyed} → KeyListed room a → KeyListed other b → key_number a ≡ key_number b → a ≡ b
-keys-differ (writes n h i j) (writes m h' i' j') e = ap key.Written e
+keys-differ (writes n h i j) (writes m h' i' j') e = ap Ok e
 keys-differ (writes n h i j) (badpaper o l) e = absurd (omega arith)
 keys-differ (writes n h i j) blank e = absurd (omega arith)
 keys-differ (writes n h i j) noroom e = absurd (omega arith)
@@ -126,7 +125,7 @@ small n r offset e h d l =
         (λ q. let b = and_split (leb 28 n) (leb n 65535) (rw q at t) in omega (arith, leb-true 28 n b.0, leb-true n 65535 b.1))
 
 mark-told : {m : Marked} → MarkListed m → refused_of (mark_number m) ≡ mark_refusal m
-mark-told (counts t r m u h i j k) = large (mark_number (mark.Mark t r m u)) (omega arith)
+mark-told (counts t r m u h i j k) = large (mark_number (worth t r m u)) (omega arith)
 mark-told (badpaper o l) = small (15 + 65536 * o) 15 o refl (omega arith) (λ e. absurd (omega arith)) l
 mark-told blank = refl
 mark-told (badsheet o l) = small (17 + 65536 * o) 17 o refl (omega arith) (λ e. absurd (omega arith)) (omega arith)

@@ -4,8 +4,7 @@ use Prim.Native.String.{String}
 use Rattle.papers.specs.Bytes.{run}
 use Rattle.papers.specs.Entries.{entry_at}
 use Rattle.papers.specs.declared.layout.Refusal.TheVariants.{Badpaper, Blank, Badsheet, Noroom}
-use Rattle.marker.specs.declared.keys.Keyed.TheVariants.{Written, Refused as Unwritten}
-use Rattle.marker.specs.declared.marks.Marked.TheVariants.{Mark, Refused}
+use Rattle.marker.specs.Mark.{worth}
 use Rattle.forms.specs.declared.items.Refusal.TheVariants as writer
 use Rattle.forms.specs.Adding.{counts}
 use Rattle.brinefeather.specs.Desk.{mark_number, key_number, writer_of, added_number, refused_of}
@@ -21,20 +20,20 @@ numbered name comes should = record { name = name; comes = comes; should = shoul
 unfoldable pub numbers : List Numbered
 numbers =
     -- "total, right, missing and surplus in 16 bits each, total highest"
-    numbered "a mark of a blank sheet" (mark_number (Mark 2 0 2 0)) 0x0002000000020000
-    ∷ numbered "a mark with a different number in each place" (mark_number (Mark 9 7 2 5)) 0x0009000700020005
+    numbered "a mark of a blank sheet" (mark_number (worth 2 0 2 0)) 0x0002000000020000
+    ∷ numbered "a mark with a different number in each place" (mark_number (worth 9 7 2 5)) 0x0009000700020005
     -- §1: "gain the offset, .. added, times 65,536, to the desk's number"
-    ∷ numbered "badpaper at 0" (mark_number (Refused (Badpaper 0))) 15
-    ∷ numbered "badpaper at 10" (mark_number (Refused (Badpaper 10))) 655375
-    ∷ numbered "badpaper at the last place" (mark_number (Refused (Badpaper 20010))) 1311375375
-    ∷ numbered "blank" (mark_number (Refused Blank)) 16
-    ∷ numbered "badsheet at 0" (mark_number (Refused (Badsheet 0))) 17
-    ∷ numbered "badsheet at 2" (mark_number (Refused (Badsheet 2))) 131089
-    ∷ numbered "a key of one event" (key_number (Written 22)) 22
-    ∷ numbered "no key: badpaper at 0" (key_number (Unwritten (Badpaper 0))) 15
-    ∷ numbered "no key: badpaper at 10" (key_number (Unwritten (Badpaper 10))) 655375
-    ∷ numbered "no key: blank" (key_number (Unwritten Blank)) 16
-    ∷ numbered "no key: noroom" (key_number (Unwritten Noroom)) 18
+    ∷ numbered "badpaper at 0" (mark_number (Err (Badpaper 0))) 15
+    ∷ numbered "badpaper at 10" (mark_number (Err (Badpaper 10))) 655375
+    ∷ numbered "badpaper at the last place" (mark_number (Err (Badpaper 20010))) 1311375375
+    ∷ numbered "blank" (mark_number (Err Blank)) 16
+    ∷ numbered "badsheet at 0" (mark_number (Err (Badsheet 0))) 17
+    ∷ numbered "badsheet at 2" (mark_number (Err (Badsheet 2))) 131089
+    ∷ numbered "a key of one event" (key_number (Ok 22)) 22
+    ∷ numbered "no key: badpaper at 0" (key_number (Err (Badpaper 0))) 15
+    ∷ numbered "no key: badpaper at 10" (key_number (Err (Badpaper 10))) 655375
+    ∷ numbered "no key: blank" (key_number (Err Blank)) 16
+    ∷ numbered "no key: noroom" (key_number (Err Noroom)) 18
     -- §3: the paper's length times 2^32, its events times 65,536, its sequences; or the refusal number
     ∷ numbered "a writer of one sequence" (added_number (Ok (counts 0 1))) 0x0000001C00000001
     ∷ numbered "a writer of the README's paper" (added_number (Ok (counts 6 1))) 0x0000009400060001

@@ -7,10 +7,8 @@ use Rattle.papers.specs.declared.layout.Refusal.TheVariants.{Badpaper, Blank, Ba
 use Rattle.forms.specs.Adding.{counts, length_for, Added}
 use Rattle.forms.specs.Adding as writer
 use Rattle.forms.specs.declared.items.Writer.{Writer}
-use Rattle.marker.specs.declared.keys.Keyed.{Keyed}
-use Rattle.marker.specs.declared.keys.Keyed.TheVariants as key
-use Rattle.marker.specs.declared.marks.Marked.{Marked}
-use Rattle.marker.specs.declared.marks.Marked.TheVariants as mark
+use Rattle.marker.specs.Key.{Keyed}
+use Rattle.marker.specs.Mark.{Marked}
 
 -- §1: "15 and 17 keep their numbers and places and gain the offset, .. added, times 65,536, to the desk's number."
 abbrev pub refusal_number : Refusal → ℕ
@@ -21,13 +19,13 @@ refusal_number Noroom = number_of Noroom
 
 -- "one 64-bit number: total, right, missing and surplus in 16 bits each, total highest; or, when refused, the refusal number"
 abbrev pub mark_number : Marked → ℕ
-mark_number (mark.Mark total right missing surplus) = ((total * 65536 + right) * 65536 + missing) * 65536 + surplus
-mark_number (mark.Refused r) = refusal_number r
+mark_number (Ok m) = ((m.total * 65536 + m.right) * 65536 + m.missing) * 65536 + m.surplus
+mark_number (Err r) = refusal_number r
 
 -- the key's length, or the refusal number
 abbrev pub key_number : Keyed → ℕ
-key_number (key.Written length) = length
-key_number (key.Refused r) = refusal_number r
+key_number (Ok length) = length
+key_number (Err r) = refusal_number r
 
 -- ---- §3: a writer
 
@@ -56,12 +54,12 @@ refused_of n = cond (leb 4294967296 n) 0 (cond (is_length n) 0 (n % 65536))
 
 -- what it is to say: the number of the refusal, 0 for none
 abbrev pub mark_refusal : Marked → ℕ
-mark_refusal (mark.Mark total right missing surplus) = 0
-mark_refusal (mark.Refused r) = number_of r
+mark_refusal (Ok m) = 0
+mark_refusal (Err r) = number_of r
 
 abbrev pub key_refusal : Keyed → ℕ
-key_refusal (key.Written length) = 0
-key_refusal (key.Refused r) = number_of r
+key_refusal (Ok length) = 0
+key_refusal (Err r) = number_of r
 
 abbrev pub added_refusal : Added → ℕ
 added_refusal (Ok w) = 0

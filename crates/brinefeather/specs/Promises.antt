@@ -1,8 +1,7 @@
 -- What is proved of the desk's numbers, for every paper, sheet, buffer, writer and item. Assumes nothing.
-use Rattle.std.specs.Prelude.{ℕ, ◌≡◌, List, Ok}
+use Rattle.std.specs.Prelude.{ℕ, ◌≡◌, List, Ok, Err}
 use Rattle.papers.specs.Fields.{paper_of}
 use Rattle.papers.specs.declared.layout.Refusal.{Refusal}
-use Rattle.papers.specs.declared.layout.Read.TheVariants as read
 use Rattle.marker.specs.Key.{keyed}
 use Rattle.marker.specs.Mark.{marked}
 use Rattle.forms.specs.declared.items.Writer.{Writer}
@@ -11,7 +10,7 @@ use Rattle.brinefeather.specs.Desk.{mark_number, key_number, writer_number, writ
 
 -- §1: "its callers, the marker and the key writer pass it on": a paper that is refused has one number, whichever of the two is asked
 abbrev pub OneNumber : Type 0
-OneNumber = (p s buffer : List ℕ) (r : Refusal) → paper_of p ≡ read.Refused r → mark_number (marked p s) ≡ key_number (keyed p buffer).0
+OneNumber = (p s buffer : List ℕ) (r : Refusal) → paper_of p ≡ Err r → mark_number (marked p s) ≡ key_number (keyed p buffer).0
 
 -- "the two never meet": who has the number has the outcome
 pub record NumbersDiffer : Type 0 where

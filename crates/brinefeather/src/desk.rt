@@ -4,45 +4,42 @@ ghost use Rattle.marker.specs.Key.{keyed};
 ghost use Rattle.marker.specs.Mark.{marked};
 ghost use Rattle.brinefeather.specs.Desk.{refusal_number, mark_number, key_number};
 
-use marker::keys::Keyed;
 use marker::mark;
-use marker::marks::Marked;
-use papers::layout::{Refusal, number_of};
+use marker::marks::Counts;
+use papers::layout::Refusal;
 
 // The number of a refusal, with its offset in the 16 bits above, if it has one.
 fn refusal_number(r: Refusal) -> u64
     ensures { result ≡ refusal_number r }
 {
-    let number = number_of(r) as u64;
+    let number = r.number() as u64;
     match r {
-        Refusal::Badpaper(offset) => number + 65536 * (offset as u64),
-        Refusal::Badsheet(offset) => number + 65536 * (offset as u64),
-        Refusal::Blank => number,
-        Refusal::Noroom => number,
+        Refusal::Badpaper(offset) | Refusal::Badsheet(offset) => number + 65536 * (offset as u64),
+        Refusal::Blank | Refusal::Noroom => number,
     }
 }
 
-fn mark_number(m: Marked) -> u64
+fn mark_number(m: Result<Counts, Refusal>) -> u64
     ensures { result ≡ mark_number m }
 {
     match m {
-        Marked::Refused(r) => refusal_number(r),
-        Marked::Mark {
+        Ok(Counts {
             total,
             right,
             missing,
             surplus,
-        } => (((total as u64) * 65536 + (right as u64)) * 65536 + (missing as u64)) * 65536
+        }) => (((total as u64) * 65536 + (right as u64)) * 65536 + (missing as u64)) * 65536
             + (surplus as u64),
+        Err(r) => refusal_number(r),
     }
 }
 
-fn key_number(k: Keyed) -> u64
+fn key_number(k: Result<usize, Refusal>) -> u64
     ensures { result ≡ key_number k }
 {
     match k {
-        Keyed::Refused(r) => refusal_number(r),
-        Keyed::Written(length) => length as u64,
+        Ok(length) => length as u64,
+        Err(r) => refusal_number(r),
     }
 }
 

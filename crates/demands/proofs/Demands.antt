@@ -20,23 +20,19 @@ use Rattle.rules.specs.declared.state.Stepped.{Stepped}
 use Rattle.rules.proofs.Walk.{answers-listed, refused-keeps}
 use Rattle.papers.specs.Bytes.{joined}
 use Rattle.papers.specs.Layout.{event_count}
-use Rattle.papers.specs.Fields.{paper_of, sheet_of}
+use Rattle.papers.specs.Fields.{Read, paper_of, sheet_of}
 use Rattle.papers.specs.Events.{events_of}
 use Rattle.papers.specs.Answers.{answer_bytes, places_of}
 use Rattle.papers.specs.declared.layout.Refusal.{Refusal}
 use Rattle.papers.specs.declared.layout.Refusal.TheVariants.{Noroom}
-use Rattle.papers.specs.declared.layout.Read.{Read}
-use Rattle.papers.specs.declared.layout.Read.TheVariants as read
+use Rattle.std.specs.Prelude.{Ok, Err}
 use Rattle.papers.proofs.Files.{paper-count, sheet-counts}
 use Rattle.papers.proofs.Sheets.{made-fits, made-count}
 use Rattle.marker.specs.Promises.{KeyListed, writes as key_writes, badpaper, blank, noroom}
 use Rattle.rules.specs.Play.{answers_from, state_from}
 use Rattle.rules.proofs.Plays.{answers-more, state-more}
-use Rattle.marker.specs.Key.{key_places, key_of, keyed_for, keyed}
-use Rattle.marker.specs.Mark.{right_places, marked}
-use Rattle.marker.specs.declared.keys.Keyed.{Keyed}
-use Rattle.marker.specs.declared.keys.Keyed.TheVariants as key
-use Rattle.marker.specs.declared.marks.Marked.TheVariants as mark
+use Rattle.marker.specs.Key.{key_places, key_of, Keyed, keyed_for, keyed}
+use Rattle.marker.specs.Mark.{right_places, worth, marked}
 use Rattle.marker.proofs.Places.{places_count, key-places}
 use Rattle.marker.proofs.Promises.{perfect-exact, marks-listed, keys-listed, key-long, mark-refused}
 use Rattle.model.proofs.fresh.Met as fresh-code
@@ -116,23 +112,23 @@ held b (turned {es = es} {given = given} c out e answer after rows g) =
 
 -- what a key comes to: nothing was written, or the whole key was
 pub data Came (p buffer : List ℕ) : Keyed × List ℕ → Type 0 where
-  refuses : (n : Refusal) → Came p buffer (key.Refused n, buffer)
-  writes : Came p buffer (key.Written (6 + 16 * event_count p), key_of p ++ drop (6 + 16 * event_count p) buffer)
+  refuses : (n : Refusal) → Came p buffer (Err n, buffer)
+  writes : Came p buffer (Ok (6 + 16 * event_count p), key_of p ++ drop (6 + 16 * event_count p) buffer)
 
 came : (p buffer : List ℕ) → Came p buffer (keyed p buffer)
 unfolding keyed
 came p buffer = go (paper_of p) refl
   where
     go : (x : Read) → paper_of p ≡ x → Came p buffer (keyed_for x (key_of p) buffer)
-    go (read.Refused n) e = refuses n
-    go (read.Count n) e =
+    go (Err n) e = refuses n
+    go (Ok n) e =
         rw (paper-count p n e)
         (cases (ltb (length buffer) (6 + 16 * event_count p)) (λ l. rw l (refuses Noroom)) (λ l. rw l writes))
 
-no_byte_lem : (p buffer : List ℕ) (n : Refusal) (after : List ℕ) {x : Keyed × List ℕ} → (key.Refused n, after) ≡ x → Came p buffer x → after ≡ buffer
+no_byte_lem : (p buffer : List ℕ) (n : Refusal) (after : List ℕ) {x : Keyed × List ℕ} → (Err n, after) ≡ x → Came p buffer x → after ≡ buffer
 no_byte_lem p buffer n after e (refuses k) = ap (λ (x : Keyed × List ℕ). x.1) e
 no_byte_lem p buffer n after e writes =
-    let f : key.Refused n ≡ key.Written (6 + 16 * event_count p) = ap (λ (x : Keyed × List ℕ). x.0) e in
+    let f : Err n ≡ Ok (6 + 16 * event_count p) = ap (λ (x : Keyed × List ℕ). x.0) e in
     let z : ◌≡◌ {A = ℕ} 0 1 = cc in
     absurd (omega arith)
 
@@ -141,13 +137,13 @@ pub record Whole (p buffer : List ℕ) (n : ℕ) (after : List ℕ) : Type 0 whe
   pub long : n ≡ 6 + 16 * event_count p
   pub is : after ≡ key_of p ++ drop n buffer
 
-whole : (p buffer : List ℕ) (n : ℕ) (after : List ℕ) {x : Keyed × List ℕ} → (key.Written n, after) ≡ x → Came p buffer x → Whole p buffer n after
+whole : (p buffer : List ℕ) (n : ℕ) (after : List ℕ) {x : Keyed × List ℕ} → (Ok n, after) ≡ x → Came p buffer x → Whole p buffer n after
 whole p buffer n after e (refuses k) =
-    let f : key.Written n ≡ key.Refused k = ap (λ (x : Keyed × List ℕ). x.0) e in
+    let f : Ok n ≡ Err k = ap (λ (x : Keyed × List ℕ). x.0) e in
     let z : ◌≡◌ {A = ℕ} 0 1 = cc in
     absurd (omega arith)
 whole p buffer n after e writes =
-    let f : key.Written n ≡ key.Written (6 + 16 * event_count p) = ap (λ (x : Keyed × List ℕ). x.0) e in
+    let f : Ok n ≡ Ok (6 + 16 * event_count p) = ap (λ (x : Keyed × List ℕ). x.0) e in
     let l : n ≡ 6 + 16 * event_count p = cc in
     record { long = l; is = rw l (ap (λ (x : Keyed × List ℕ). x.1) e) }
 
@@ -167,30 +163,30 @@ module _ (p buffer : List ℕ) (n : ℕ) (after : List ℕ) (w : Whole p buffer 
 
 -- ---- marks
 
-sheet-no-mark : (p s : List ℕ) (k : ℕ) (n : Refusal) → paper_of p ≡ read.Count k → sheet_of s ≡ read.Refused n → marked p s ≡ mark.Refused n
+sheet-no-mark : (p s : List ℕ) (k : ℕ) (n : Refusal) → paper_of p ≡ Ok k → sheet_of s ≡ Err n → marked p s ≡ Err n
 unfolding marked
 sheet-no-mark p s k n e f = rw (e, f)
 
-no_key_lem : (p buffer : List ℕ) (n : Refusal) → paper_of p ≡ read.Refused n → keyed p buffer ≡ (key.Refused n, buffer)
+no_key_lem : (p buffer : List ℕ) (n : Refusal) → paper_of p ≡ Err n → keyed p buffer ≡ (Err n, buffer)
 unfolding keyed
 no_key_lem p buffer n e = rw e
 
-marked-is : (p s : List ℕ) (total answers : ℕ) → paper_of p ≡ read.Count total → sheet_of s ≡ read.Count answers
-    → marked p s ≡ mark.Mark total (right_places (map answer_bytes (answers_from (laid fresh) (events_of p))) (places_of s)) (total - answers) (answers - total)
+marked-is : (p s : List ℕ) (total answers : ℕ) → paper_of p ≡ Ok total → sheet_of s ≡ Ok answers
+    → marked p s ≡ worth total (right_places (map answer_bytes (answers_from (laid fresh) (events_of p))) (places_of s)) (total - answers) (answers - total)
 unfolding marked key_places
 marked-is p s total answers e f = rw (e, f)
 
-keyed-is : (p buffer : List ℕ) (n : ℕ) → paper_of p ≡ read.Count n → 6 + 16 * n ≤ length buffer → (keyed p buffer).0 ≡ key.Written (6 + 16 * n)
+keyed-is : (p buffer : List ℕ) (n : ℕ) → paper_of p ≡ Ok n → 6 + 16 * n ≤ length buffer → (keyed p buffer).0 ≡ Ok (6 + 16 * n)
 unfolding keyed
 keyed-is p buffer n e h = rw (e, le-ltb (length buffer) (6 + 16 * n) h)
 
-long-most : {room n : ℕ} {x : Keyed} → KeyListed room x → x ≡ key.Written n → n ≤ 16006
+long-most : {room n : ℕ} {x : Keyed} → KeyListed room x → x ≡ Ok n → n ≤ 16006
 long-most {n = n} (key_writes k a b c) e = let l : 6 + 16 * k ≡ n = cc in omega arith
 long-most (badpaper offset l) e = let z : ◌≡◌ {A = ℕ} 0 1 = cc in absurd (omega arith)
 long-most blank e = let z : ◌≡◌ {A = ℕ} 0 1 = cc in absurd (omega arith)
 long-most noroom e = let z : ◌≡◌ {A = ℕ} 0 1 = cc in absurd (omega arith)
 
-sheet-is : (p buffer : List ℕ) (n : ℕ) (after : List ℕ) → (key.Written n, after) ≡ keyed p buffer → sheet_of (take n after) ≡ read.Count (event_count p)
+sheet-is : (p buffer : List ℕ) (n : ℕ) (after : List ℕ) → (Ok n, after) ≡ keyed p buffer → sheet_of (take n after) ≡ Ok (event_count p)
 unfolding key_of
 sheet-is p buffer n after g =
     let w = whole p buffer n after g (came p buffer) in

@@ -1,5 +1,5 @@
 -- Demands 1 and 2, of the code; demand 3 is in crate rules. In this file quotation marks stand around the demands' own words. Assumes nothing.
-use Rattle.std.specs.Prelude.{ℕ, ◌+◌, ◌-◌, ◌*◌, ◌≤◌, ◌≡◌, true, ◌↔◌, List, [], ◌∷◌, ◌++◌, map, length, take, drop, replicate}
+use Rattle.std.specs.Prelude.{ℕ, ◌+◌, ◌-◌, ◌*◌, ◌≤◌, ◌≡◌, true, ◌↔◌, List, [], ◌∷◌, ◌++◌, map, length, take, drop, replicate, Ok, Err}
 use Rattle.std.specs.Borrow.{Bor, MutBor}
 use Rattle.rules.specs.State.{laid, fresh}
 use Rattle.rules.specs.Step.{step_of}
@@ -17,14 +17,10 @@ use Rattle.papers.specs.Fields.{paper_of, sheet_of}
 use Rattle.papers.specs.Events.{events_of}
 use Rattle.papers.specs.Answers.{answer_bytes, places_of}
 use Rattle.papers.specs.declared.layout.Refusal.{Refusal}
-use Rattle.papers.specs.declared.layout.Read.TheVariants as read
 use Rattle.rules.specs.Play.{answers_from, state_from}
-use Rattle.marker.specs.Mark.{right_places, is_perfect}
+use Rattle.marker.specs.Mark.{Marked, worth, right_places, is_perfect}
 use Rattle.marker.specs.Promises.{MarkListed, KeyListed, PlacesCount, AllRight}
-use Rattle.marker.specs.declared.keys.Keyed.{Keyed}
-use Rattle.marker.specs.declared.keys.Keyed.TheVariants as keyed
-use Rattle.marker.specs.declared.marks.Marked.{Marked}
-use Rattle.marker.specs.declared.marks.Marked.TheVariants as marked
+use Rattle.marker.specs.Key.{Keyed}
 use Rattle.model.proofs.fresh.Statement as fresh-theorem
 use Rattle.model.proofs.fresh.Reads as fresh-promise
 use Rattle.model.proofs.step.Statement as step-theorem
@@ -130,10 +126,10 @@ pub record Demand1 : Type 0 where
   pub key_given : (p buffer : List ℕ) → (r : Keyed) × (after : List ℕ) × KeyGives p buffer r after
   pub keys_listed : (p buffer : List ℕ) (r : Keyed) (after : List ℕ) → KeyGives p buffer r after → KeyListed (length buffer) r
   -- "a refused paper or sheet writes no byte of the key and yields no mark"
-  pub no_byte : (p buffer : List ℕ) (n : Refusal) (after : List ℕ) → KeyGives p buffer (keyed.Refused n) after → after ≡ buffer
-  pub no_key : (p buffer : List ℕ) (n : Refusal) → paper_of p ≡ read.Refused n → (r : Keyed) (after : List ℕ) → KeyGives p buffer r after → r ≡ keyed.Refused n
-  pub paper_no_mark : (p s : List ℕ) (n : Refusal) → paper_of p ≡ read.Refused n → (r : Marked) → MarkGives p s r → r ≡ marked.Refused n
-  pub sheet_no_mark : (p s : List ℕ) (k : ℕ) (n : Refusal) → paper_of p ≡ read.Count k → sheet_of s ≡ read.Refused n → (r : Marked) → MarkGives p s r → r ≡ marked.Refused n
+  pub no_byte : (p buffer : List ℕ) (n : Refusal) (after : List ℕ) → KeyGives p buffer (Err n) after → after ≡ buffer
+  pub no_key : (p buffer : List ℕ) (n : Refusal) → paper_of p ≡ Err n → (r : Keyed) (after : List ℕ) → KeyGives p buffer r after → r ≡ Err n
+  pub paper_no_mark : (p s : List ℕ) (n : Refusal) → paper_of p ≡ Err n → (r : Marked) → MarkGives p s r → r ≡ Err n
+  pub sheet_no_mark : (p s : List ℕ) (k : ℕ) (n : Refusal) → paper_of p ≡ Ok k → sheet_of s ≡ Err n → (r : Marked) → MarkGives p s r → r ≡ Err n
 
 -- ---- demand 2
 
@@ -168,16 +164,16 @@ pub record Demand2 : Type 0 where
   pub every : (s : State) (before : List Event) (e : Event) (rest : List Event)
       → answers_from s (before ++ e ∷ rest) ≡ answers_from s before ++ (step_of (state_from s before) e).answer ∷ answers_from (state_from s (before ++ e ∷ [])) rest
   -- the key of a paper that is not refused is written, if there is room
-  pub written : (p buffer : List ℕ) (n : ℕ) → paper_of p ≡ read.Count n → 6 + 16 * n ≤ length buffer → (r : Keyed) (after : List ℕ) → KeyGives p buffer r after
-      → r ≡ keyed.Written (6 + 16 * n)
+  pub written : (p buffer : List ℕ) (n : ℕ) → paper_of p ≡ Ok n → 6 + 16 * n ≤ length buffer → (r : Keyed) (after : List ℕ) → KeyGives p buffer r after
+      → r ≡ Ok (6 + 16 * n)
   -- it is a sheet with one answer per event, and has those answers, place by place; what lay behind it in the buffer lies there still
-  pub sheet : (p buffer : List ℕ) (n : ℕ) (after : List ℕ) → KeyGives p buffer (keyed.Written n) after → sheet_of (take n after) ≡ read.Count (event_count p)
-  pub places : (p buffer : List ℕ) (n : ℕ) (after : List ℕ) → KeyGives p buffer (keyed.Written n) after
+  pub sheet : (p buffer : List ℕ) (n : ℕ) (after : List ℕ) → KeyGives p buffer (Ok n) after → sheet_of (take n after) ≡ Ok (event_count p)
+  pub places : (p buffer : List ℕ) (n : ℕ) (after : List ℕ) → KeyGives p buffer (Ok n) after
       → places_of (take n after) ≡ map answer_bytes (answers_from (laid fresh) (events_of p))
-  pub behind : (p buffer : List ℕ) (n : ℕ) (after : List ℕ) → KeyGives p buffer (keyed.Written n) after → (n ≡ 6 + 16 * event_count p) × (drop n after ≡ drop n buffer)
+  pub behind : (p buffer : List ℕ) (n : ℕ) (after : List ℕ) → KeyGives p buffer (Ok n) after → (n ≡ 6 + 16 * event_count p) × (drop n after ≡ drop n buffer)
   -- "The mark counts the places where sheet and key are equal.": a paper and a sheet that are not refused have this mark; each place counts by itself, one where the 16 bytes are equal and none where they are not
-  pub marks : (p s : List ℕ) (total answers : ℕ) → paper_of p ≡ read.Count total → sheet_of s ≡ read.Count answers → (r : Marked) → MarkGives p s r
-      → r ≡ marked.Mark total (right_places (map answer_bytes (answers_from (laid fresh) (events_of p))) (places_of s)) (total - answers) (answers - total)
+  pub marks : (p s : List ℕ) (total answers : ℕ) → paper_of p ≡ Ok total → sheet_of s ≡ Ok answers → (r : Marked) → MarkGives p s r
+      → r ≡ worth total (right_places (map answer_bytes (answers_from (laid fresh) (events_of p))) (places_of s)) (total - answers) (answers - total)
   pub by_places : PlacesCount
   -- "Full marks mean every event of a paper with at least one event was answered rightly, with no answer over."
   pub full : (p s : List ℕ) (r : Marked) → MarkGives p s r → (is_perfect r ≡ true) ↔ AllRight p s

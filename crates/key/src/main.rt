@@ -1,7 +1,7 @@
 // Writes the key of the file `paper` to the file `key`, or prints why there is none.
 #![tactic(auto)]
 
-use marker::keys::Keyed;
+use line::Refused;
 use papers::layout::Refusal;
 use std::fs;
 use std::rt::Files;
@@ -13,16 +13,14 @@ fn save(rt: &(impl Files + Eprint), key: &[u8]) {
 
 // Prints the line of a refusal.
 fn report(rt: &(impl Print + Eprint), r: Refusal) {
-    let mut out = [0u8; 64];
-    let n = line::refused(r, &mut out);
-    files::tell_failure(rt, "standard output", rt.write_all(&out[..n]));
+    files::tell_failure(rt, "standard output", print!(rt; "{}", Refused(r)));
 }
 
 // Makes the key in `space`, and saves it or says why there is none.
 fn make_key(rt: &(impl Files + Print + Eprint), paper: &[u8], space: &mut [u8]) {
     match marker::key(paper, space) {
-        Keyed::Written(n) => save(rt, &space[..n]),
-        Keyed::Refused(r) => report(rt, r),
+        Ok(n) => save(rt, &space[..n]),
+        Err(r) => report(rt, r),
     }
 }
 

@@ -1,3 +1,2 @@
-pub mod Puts
-pub mod Digits
+pub mod Shown
 pub mod Cases

@@ -12,22 +12,18 @@ use Rattle.locks.proofs.Tests.{cases, picked, and_split}
 use Rattle.rules.specs.State.{laid, fresh}
 use Rattle.papers.specs.Bytes.{number16, joined}
 use Rattle.papers.specs.Layout.{field, event_count, answer_count}
-use Rattle.papers.specs.Fields.{tested, paper_of, sheet_field, sheet_of}
+use Rattle.papers.specs.Fields.{Read, tested, paper_of, sheet_field, sheet_of}
 use Rattle.papers.specs.Events.{events_of}
 use Rattle.papers.specs.Answers.{sheet_header, places_of}
 use Rattle.papers.specs.declared.layout.Refusal.{Refusal}
 use Rattle.papers.specs.declared.layout.Refusal.TheVariants.{Badpaper, Noroom}
-use Rattle.papers.specs.declared.layout.Read.{Read}
-use Rattle.papers.specs.declared.layout.Read.TheVariants as read
+use Rattle.std.specs.Prelude.{Ok, Err}
 use Rattle.papers.proofs.Files.{PaperRead, SheetRead, broken, empty, some, paper-has, paper-read, paper-counts, sheet-read, sheet-counts}
 use Rattle.papers.proofs.Sheets.{header-long, made-count, made-fits}
 use Rattle.rules.specs.Play.{answers_from}
-use Rattle.marker.specs.Key.{key_places, key_of, keyed_for, keyed}
+use Rattle.marker.specs.Key.{key_places, key_of, Keyed, keyed_for, keyed}
 use Rattle.marker.specs.Mark.{right_places, marked_for, marked, is_perfect}
 use Rattle.marker.specs.Promises.{AllRight, PerfectExact, BlankNothing, KeyLong, KeyPerfect, MarkListed, MarksListed, KeyListed, KeysListed, OneRefusal, counts, writes, badpaper, blank, badsheet, noroom}
-use Rattle.marker.specs.declared.keys.Keyed.{Keyed}
-use Rattle.marker.specs.declared.keys.Keyed.TheVariants as key
-use Rattle.marker.specs.declared.marks.Marked.TheVariants as mark
 use Rattle.marker.proofs.Places.{key-count, right-most, right-fits, right-self, right-all, answers-long, key-places}
 
 -- ---- full marks
@@ -112,10 +108,10 @@ keys-listed p buffer = go (paper-read p)
         (λ l. writes (event_count p) k f.events (ltb-false _ _ l))
 
 -- a key that is written lies within the buffer
-pub key-within : (p buffer : List ℕ) (n : ℕ) → (keyed p buffer).0 ≡ key.Written n → n ≤ length buffer
+pub key-within : (p buffer : List ℕ) (n : ℕ) → (keyed p buffer).0 ≡ Ok n → n ≤ length buffer
 key-within p buffer n = go (keys-listed p buffer)
   where
-    go : {k : Keyed} → KeyListed (length buffer) k → k ≡ key.Written n → n ≤ length buffer
+    go : {k : Keyed} → KeyListed (length buffer) k → k ≡ Ok n → n ≤ length buffer
     go (writes m a b l) e = let z : n ≡ 6 + 16 * m = cc in omega arith
     go (badpaper offset m) e = let z : ◌≡◌ {A = ℕ} 0 1 = cc in absurd (omega arith)
     go blank e = let z : ◌≡◌ {A = ℕ} 0 1 = cc in absurd (omega arith)
@@ -123,36 +119,36 @@ key-within p buffer n = go (keys-listed p buffer)
 
 -- ---- one paper, one refusal
 
-pub mark-refused : (p s : List ℕ) (r : Refusal) → paper_of p ≡ read.Refused r → marked p s ≡ mark.Refused r
+pub mark-refused : (p s : List ℕ) (r : Refusal) → paper_of p ≡ Err r → marked p s ≡ Err r
 unfolding marked
 mark-refused p s r e = rw e
 
-pub key-refused : (p buffer : List ℕ) (r : Refusal) → paper_of p ≡ read.Refused r → (keyed p buffer).0 ≡ key.Refused r
+pub key-refused : (p buffer : List ℕ) (r : Refusal) → paper_of p ≡ Err r → (keyed p buffer).0 ≡ Err r
 unfolding keyed
 key-refused p buffer r e = rw e
 
 -- by its paper alone: neither a sheet nor a buffer brings this refusal
-mark-paper : (p s : List ℕ) (offset : ℕ) → marked p s ≡ mark.Refused (Badpaper offset) → paper_of p ≡ read.Refused (Badpaper offset)
+mark-paper : (p s : List ℕ) (offset : ℕ) → marked p s ≡ Err (Badpaper offset) → paper_of p ≡ Err (Badpaper offset)
 unfolding marked
 mark-paper p s offset = go (paper-read p) (sheet-read s)
   where
-    go : {x y : Read} → PaperRead p x → SheetRead s y → marked_for x y (right_places (key_places p) (places_of s)) ≡ mark.Refused (Badpaper offset) → x ≡ read.Refused (Badpaper offset)
+    go : {x y : Read} → PaperRead p x → SheetRead s y → marked_for x y (right_places (key_places p) (places_of s)) ≡ Err (Badpaper offset) → x ≡ Err (Badpaper offset)
     go (broken o m q n) y e = let d : o ≡ offset = cc in rw d
     go (empty h z) y e = let z : ◌≡◌ {A = ℕ} 0 1 = cc in absurd (omega arith)
     go (some f k) (broken o m q n) e = let z : ◌≡◌ {A = ℕ} 0 1 = cc in absurd (omega arith)
     go (some f k) (some g) e = let z : ◌≡◌ {A = ℕ} 0 1 = cc in absurd (omega arith)
 
-key-paper : (p buffer : List ℕ) (offset : ℕ) → (keyed p buffer).0 ≡ key.Refused (Badpaper offset) → paper_of p ≡ read.Refused (Badpaper offset)
+key-paper : (p buffer : List ℕ) (offset : ℕ) → (keyed p buffer).0 ≡ Err (Badpaper offset) → paper_of p ≡ Err (Badpaper offset)
 unfolding keyed
 key-paper p buffer offset = go (paper-read p)
   where
-    go : {x : Read} → PaperRead p x → (keyed_for x (key_of p) buffer).0 ≡ key.Refused (Badpaper offset) → x ≡ read.Refused (Badpaper offset)
+    go : {x : Read} → PaperRead p x → (keyed_for x (key_of p) buffer).0 ≡ Err (Badpaper offset) → x ≡ Err (Badpaper offset)
     go (broken o m q n) e = let d : o ≡ offset = cc in rw d
     go (empty h z) e = let z : ◌≡◌ {A = ℕ} 0 1 = cc in absurd (omega arith)
     go (some f k) e =
         cases (ltb (length buffer) (6 + 16 * event_count p))
-        (λ l. let d : key.Refused Noroom ≡ key.Refused (Badpaper offset) = rw l at e in let z : ◌≡◌ {A = ℕ} 0 1 = cc in absurd (omega arith))
-        (λ l. let d : key.Written (6 + 16 * event_count p) ≡ key.Refused (Badpaper offset) = rw l at e in let z : ◌≡◌ {A = ℕ} 0 1 = cc in absurd (omega arith))
+        (λ l. let d : Err Noroom ≡ Err (Badpaper offset) = rw l at e in let z : ◌≡◌ {A = ℕ} 0 1 = cc in absurd (omega arith))
+        (λ l. let d : Ok (6 + 16 * event_count p) ≡ Err (Badpaper offset) = rw l at e in let z : ◌≡◌ {A = ℕ} 0 1 = cc in absurd (omega arith))
 
 pub one-refusal : OneRefusal
 one-refusal =

@@ -8,15 +8,8 @@ ghost use Rattle.papers.specs.Answers.{answer_bytes, sheet_header};
 ghost use Rattle.marker.specs.Key.{keyed};
 
 use model::{NUMBERS, WORDS, begin, turn};
-use papers::layout::{Read, Refusal};
+use papers::layout::Refusal;
 use papers::{event, header, paper, put_reply};
-
-// The key's length, or the refusal.
-#[derive(Clone, Copy)]
-pub enum Keyed {
-    Written(usize),
-    Refused(Refusal),
-}
 
 // Puts the answers to the paper's first n events at the start of what is left of the key.
 fn put_answers(p: &[u8], n: u16, out: &mut [u8])
@@ -45,19 +38,16 @@ fn put_key(p: &[u8], n: u16, out: &mut [u8])
     put_answers(p, n, &mut out[6..]);
 }
 
-// Writes the key of a paper: all of it, or no byte.
-pub fn key(p: &[u8], out: &mut [u8]) -> Keyed
+// Writes the key of a paper, all of it or no byte, and gives its length.
+#[tactic(auto, unfolding(crate::specs::Key::keyed))]
+pub fn key(p: &[u8], out: &mut [u8]) -> Result<usize, Refusal>
     ensures { (result, out.new) ≡ keyed p.now out.old }
 {
-    match paper(p) {
-        Read::Refused(r) => Keyed::Refused(r),
-        Read::Count(n) => {
-            let length = 6 + 16 * (n as usize);
-            if out.len() < length {
-                return Keyed::Refused(Refusal::Noroom);
-            }
-            put_key(p, n, out);
-            Keyed::Written(length)
-        }
+    let n = paper(p)?;
+    let length = 6 + 16 * (n as usize);
+    if out.len() < length {
+        return Err(Refusal::Noroom);
     }
+    put_key(p, n, out);
+    Ok(length)
 }

@@ -1,5 +1,5 @@
 // A sheet marked by its paper.
-ghost use Rattle.std.specs.Prelude.{◌≡◌, map, ◌-◌, min};
+ghost use Rattle.std.specs.Prelude.{◌≡◌, map};
 ghost use Rattle.rules.specs.State.{laid, fresh};
 ghost use Rattle.rules.specs.Play.{answers_from};
 ghost use Rattle.papers.specs.Bytes.{sixteens_from};
@@ -8,32 +8,16 @@ ghost use Rattle.papers.specs.Answers.{answer_bytes};
 ghost use Rattle.marker.specs.Mark.{right_places, marked, is_perfect};
 
 use model::{NUMBERS, WORDS, begin, turn};
-use papers::layout::{Read, Refusal};
+use papers::layout::Refusal;
 use papers::{event, paper, sheet, stands_at};
 
-// What a sheet is worth, or the refusal.
-#[derive(Clone, Copy)]
-pub enum Marked {
-    Mark {
-        total: u16,
-        right: u16,
-        missing: u16,
-        surplus: u16,
-    },
-    Refused(Refusal),
-}
-
-fn lesser(a: u16, b: u16) -> u16
-    ensures { result ≡ min a b }
-{
-    if a < b { a } else { b }
-}
-
-// What a is above b, if it is.
-fn above(a: u16, b: u16) -> u16
-    ensures { result ≡ a - b }
-{
-    if a < b { 0 } else { a - b }
+// The counts of a mark.
+#[derive(Clone, Copy, Debug, PartialEq, Eq)]
+pub struct Counts {
+    pub total: u16,
+    pub right: u16,
+    pub missing: u16,
+    pub surplus: u16,
 }
 
 // In how many of the first n places the sheet has the answer to the paper's event.
@@ -57,36 +41,23 @@ fn right_places(p: &[u8], sheet: &[u8], n: u16) -> u16
 }
 
 // Marks a sheet by its paper, which is played once, as far as the sheet has answers.
-pub fn mark(p: &[u8], s: &[u8]) -> Marked
+#[tactic(auto, unfolding(crate::specs::Mark::marked))]
+pub fn mark(p: &[u8], s: &[u8]) -> Result<Counts, Refusal>
     ensures { result ≡ marked p.now s.now }
 {
-    match paper(p) {
-        Read::Refused(r) => Marked::Refused(r),
-        Read::Count(total) => match sheet(s) {
-            Read::Refused(r) => Marked::Refused(r),
-            Read::Count(answers) => {
-                Marked::Mark {
-                    total: total,
-                    right: right_places(p, s, lesser(total, answers)),
-                    missing: above(total, answers),
-                    surplus: above(answers, total),
-                }
-            }
-        },
-    }
+    let total = paper(p)?;
+    let answers = sheet(s)?;
+    Ok(Counts {
+        total,
+        right: right_places(p, s, total.min(answers)),
+        missing: total.saturating_sub(answers),
+        surplus: answers.saturating_sub(total),
+    })
 }
 
 // Whether every event was answered rightly, with no answer over.
-pub fn perfect(m: Marked) -> bool
+pub fn perfect(m: Result<Counts, Refusal>) -> bool
     ensures { result ≡ is_perfect m }
 {
-    match m {
-        Marked::Refused(_) => false,
-        Marked::Mark {
-            total,
-            right,
-            missing: _,
-            surplus,
-        } => (right == total) & (surplus == 0),
-    }
+    m.is_ok_and(|m| m.right == m.total && m.surplus == 0)
 }

@@ -1,6 +1,7 @@
 -- The cases hold, by computation; those of files and of places with one `refl` for each. Assumes nothing.
 use Prim.Native.Nat.{ℕ, zero, suc, ◌+◌, ◌*◌, ◌≤◌, ◌<◌}
 use native.Mathlib.Omega.{arith}
+use Rattle.std.specs.Prelude.{Ok}
 use mathlib.Core.Path.{◌≡◌, refl, ◌∙◌}
 use mathlib.Core.Bool.{true, false}
 use mathlib.Core.List.{List, ◌++◌}
@@ -14,10 +15,8 @@ use Rattle.papers.specs.Layout.{field, event_count, sequence_count, header_fits,
 use Rattle.papers.specs.Entries.{entry_at}
 use Rattle.papers.specs.Events.{sequence_of, event_at}
 use Rattle.papers.specs.Answers.{answer_bytes, sheet_header}
-use Rattle.papers.specs.Fields.{rule, tested, first_broken, header_rules, name_rules, paper_field, paper_for, paper_of, sheet_field, sheet_of}
+use Rattle.papers.specs.Fields.{Field, fault, rule, tested, first_broken, header_rules, name_rules, paper_field, paper_for, paper_of, sheet_field, sheet_of}
 use Rattle.papers.specs.Cases.{EventCases, AnswerCases, files, FileCases, places, PlaceCases, header, last_names, LastPlace}
-use Rattle.papers.specs.declared.layout.Field.{Field}
-use Rattle.papers.specs.declared.layout.Field.TheVariants.{Keeps, Broken}
 use Rattle.papers.proofs.Fields.{first-parts}
 
 pub event-cases : EventCases
@@ -53,7 +52,7 @@ module _ (head behind : List ℕ) (m : ℕ) where
       let e : length (head ++ replicate m 0) ≡ length head + m = length-append head (replicate m 0) ∙ rw length-replicate in
       get_or-append (head ++ replicate m 0) behind 0 (length head + j) (omega (arith, e)) ∙ get_or-append-add head (replicate m 0) j 0 ∙ get_or-replicate m j 0 0 l
 
-  zero-kept : (j : ℕ) → j + 20 ≤ m → tested file (rule (length head + j + 18) 0 (sequence_count file) true) ≡ Keeps
+  zero-kept : (j : ℕ) → j + 20 ≤ m → tested file (rule (length head + j + 18) 0 (sequence_count file) true) ≡ Ok tt
   unfolding tested field number16
   zero-kept j l =
       let d : length head + j + 18 ≡ length head + (j + 18) = omega arith in
@@ -68,7 +67,7 @@ module _ (head behind : List ℕ) (m : ℕ) where
       let g : j + 20 * suc n ≡ j + 20 + 20 * n = omega arith in
       rw (e, zero-kept j (omega arith), f, g) (past-zeros (j + 20) n k (omega arith))
 
-named : (p : List ℕ) (n : ℕ) (f : Field) → ltb (length p) 12 ≡ false → event_count p ≡ n → first_broken p (header_rules p) ≡ Keeps → first_broken p (name_rules p 12 n) ≡ f → paper_of p ≡ paper_for f n
+named : (p : List ℕ) (n : ℕ) (f : Field) → ltb (length p) 12 ≡ false → event_count p ≡ n → first_broken p (header_rules p) ≡ Ok tt → first_broken p (name_rules p 12 n) ≡ f → paper_of p ≡ paper_for f n
 unfolding paper_field paper_of
 named p n f l e h k = rw (l, first-parts p (header_rules p) (name_rules p 12 (event_count p)), h, e, k)
 
@@ -77,4 +76,4 @@ last-names n = past-zeros (header 1 1000 12 0 20012 20012) (bytes16 n) 19998 0 9
 
 pub last-place : LastPlace
 unfolding number16 field tested
-last-place = record { kept = named (last_names 0) 1000 Keeps refl refl refl (last-names 0); broken = named (last_names 1) 1000 (Broken 20010) refl refl refl (last-names 1) }
+last-place = record { kept = named (last_names 0) 1000 (Ok tt) refl refl refl (last-names 0); broken = named (last_names 1) 1000 (fault 20010) refl refl refl (last-names 1) }

@@ -1,6 +1,7 @@
 -- Fields in file order, and the first that is broken. Assumes nothing.
 use Prim.Native.Nat.{ℕ, zero, suc, ◌+◌, ◌-◌, ◌*◌, ◌≤◌, ◌<◌}
 use native.Mathlib.Omega.{arith}
+use Rattle.std.specs.Prelude.{Ok, Err}
 use mathlib.Core.Path.{◌≡◌, refl, sym, ◌∙◌}
 use mathlib.Core.Bool.{Bool, true, false, true≢false}
 use mathlib.Core.List.{List, [], ◌∷◌, ◌++◌, map}
@@ -10,34 +11,15 @@ use Rattle.locks.specs.Lists.{all}
 use Rattle.locks.proofs.Tests.{picked, off, and_split, and-join}
 use Rattle.locks.proofs.Lists.{all-mono, all-parts}
 use Rattle.papers.specs.Layout.{event_count, sequence_count, sequences_at}
-use Rattle.papers.specs.Fields.{Rule, rule, keeps, tested, first_of, first_broken, header_rules, name_rules, paper_rules}
+use Rattle.papers.specs.Fields.{Field, fault, Rule, rule, keeps, tested, first_of, first_broken, header_rules, name_rules, paper_rules}
 use Rattle.papers.specs.Promises.{FirstBroken, rising, InFileOrder}
-use Rattle.papers.specs.declared.layout.Field.{Field}
-use Rattle.papers.specs.declared.layout.Field.TheVariants.{Keeps, Broken}
 
--- ---- answers joined, one behind the other
-
--- each behind what was found so far
-abbrev pub onward : Field → List Field → Field
-onward found [] = found
-onward found (f ∷ fields) = onward (first_of found f) fields
-
--- each ahead of the rest
-abbrev pub in_order : List Field → Field
-in_order [] = Keeps
-in_order (f ∷ fields) = first_of f (in_order fields)
-
-pub onward-order : (found : Field) (fields : List Field) → onward found fields ≡ first_of found (in_order fields)
-onward-order Keeps [] = refl
-onward-order Keeps (f ∷ fields) = onward-order f fields
-onward-order (Broken at) [] = refl
-onward-order (Broken at) (f ∷ fields) = onward-order (Broken at) fields
+-- ---- some fields ahead of others
 
 first-nested : (a b c : Field) → first_of (first_of a b) c ≡ first_of a (first_of b c)
-first-nested Keeps b c = refl
-first-nested (Broken at) b c = refl
+first-nested (Ok k) b c = refl
+first-nested (Err k) b c = refl
 
--- some fields ahead of others
 pub first-parts : (file : List ℕ) (xs ys : List Rule) → first_broken file (xs ++ ys) ≡ first_of (first_broken file xs) (first_broken file ys)
 first-parts file [] ys = refl
 first-parts file (r ∷ xs) ys = rw (first-parts file xs ys) (sym (first-nested (tested file r) (first_broken file xs) (first_broken file ys)))
@@ -54,8 +36,8 @@ names_at p n i h =
 -- ---- what is found: every field keeps its rule, or one is the first that does not
 
 pub data Found (file : List ℕ) (rules : List Rule) : Field → Type 0 where
-  none : all (keeps file) rules ≡ true → Found file rules Keeps
-  one : (offset : ℕ) → FirstBroken file rules offset → Found file rules (Broken offset)
+  none : all (keeps file) rules ≡ true → Found file rules (Ok tt)
+  one : (offset : ℕ) → FirstBroken file rules offset → Found file rules (fault offset)
 
 found-behind : (file : List ℕ) (r : Rule) (rules : List Rule) → keeps file r ≡ true → {f : Field} → Found file rules f → Found file (r ∷ rules) f
 found-behind file r rules k (none a) = none (and-join (keeps file r) (all (keeps file) rules) k a)

@@ -18,7 +18,7 @@ use Rattle.papers.specs.Layout.{event_count, sequence_count, paper_fits}
 use Rattle.papers.specs.Fields.{paper_of}
 use Rattle.papers.specs.Entries.{entries_from}
 use Rattle.papers.specs.declared.entries.Entry.{Entry}
-use Rattle.papers.specs.declared.layout.Read.{Read}
+use Rattle.papers.specs.Fields.{Read}
 use Rattle.papers.proofs.Runs.{sixteens-count, joined-both}
 use Rattle.papers.proofs.Files.{Paper, PaperRead, broken, empty, some, paper-has, paper-read}
 use Rattle.forms.specs.declared.items.Writer.{Writer}

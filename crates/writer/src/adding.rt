@@ -7,21 +7,16 @@ ghost use Rattle.writer.specs.Refusing.{checked};
 use crate::laying::*;
 use forms::items::*;
 use papers::entries::Entry;
-use papers::layout::Read;
 use papers::{layout, paper};
 
 // Whether the reader found a sound paper with so many events; without any it is refused as blank.
-fn finds(read: Read, events: u16) -> bool
+fn finds(read: Result<u16, layout::Refusal>, events: u16) -> bool
     ensures { result ≡ finds read events }
 {
     match read {
-        Read::Count(n) => n == events,
-        Read::Refused(r) => match r {
-            layout::Refusal::Blank => events == 0,
-            layout::Refusal::Badpaper(_) => false,
-            layout::Refusal::Badsheet(_) => false,
-            layout::Refusal::Noroom => false,
-        },
+        Ok(n) => n == events,
+        Err(layout::Refusal::Blank) => events == 0,
+        Err(_) => false,
     }
 }
 
