@@ -2,6 +2,7 @@
 use crate::reading::{Line, low_byte, low_half};
 use rules::state::State;
 
+// Fields of a process, then of the state, then of a row.
 #[derive(Clone, Copy)]
 enum Field {
     Pid,
@@ -14,10 +15,10 @@ enum Field {
     Wake,
     Left,
     Alarm,
-    User,
+    UserEffective,
     UserLogin,
     UserProgram,
-    Group,
+    GroupEffective,
     GroupLogin,
     GroupProgram,
     Live,
@@ -48,10 +49,10 @@ impl TryFrom<u32> for Field {
             7 => Field::Wake,
             8 => Field::Left,
             9 => Field::Alarm,
-            10 => Field::User,
+            10 => Field::UserEffective,
             11 => Field::UserLogin,
             12 => Field::UserProgram,
-            13 => Field::Group,
+            13 => Field::GroupEffective,
             14 => Field::GroupLogin,
             15 => Field::GroupProgram,
             20 => Field::Live,
@@ -66,8 +67,7 @@ impl TryFrom<u32> for Field {
     }
 }
 
-// ! field place part value. Of the process at the place: 0 PID, 1 priority, 2 pending, 3 reaction and 4 address of signal part + 1, 5 sleep, 6 seconds,
-// 7 wake, 8 left, 9 alarm, 10 to 15 ids. 20 live, 21 used, 22 next. Of the row at the place: 30 owner, 31 shared, 32 length, 33 the byte at part.
+// ! field place part value: what stands in the field of the process or the row at the place. Part tells which reaction, trap or byte.
 pub(crate) fn poke(s: &mut State, line: &[u8]) {
     let mut line = Line::new(line);
     let Ok(field) = Field::try_from(line.number(10)) else {
@@ -89,10 +89,10 @@ pub(crate) fn poke(s: &mut State, line: &[u8]) {
         Field::Wake => s.procs[p].rest.wake = low_byte(value),
         Field::Left => s.procs[p].rest.left = value,
         Field::Alarm => s.procs[p].alarm = value,
-        Field::User => s.procs[p].user.effective = low_half(value),
+        Field::UserEffective => s.procs[p].user.effective = low_half(value),
         Field::UserLogin => s.procs[p].user.login = low_half(value),
         Field::UserProgram => s.procs[p].user.program = low_half(value),
-        Field::Group => s.procs[p].group.effective = low_half(value),
+        Field::GroupEffective => s.procs[p].group.effective = low_half(value),
         Field::GroupLogin => s.procs[p].group.login = low_half(value),
         Field::GroupProgram => s.procs[p].group.program = low_half(value),
         Field::Live => s.live = value as usize,

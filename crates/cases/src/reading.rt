@@ -1,5 +1,5 @@
 // Lines of a story: numbers apart by spaces.
-ghost use Rattle.std.specs.Prelude.{◌<◌, length, IfSome, OnSome};
+ghost use Rattle.std.specs.Prelude.{◌<◌, length, OnSome};
 
 use rules::state::Event;
 
@@ -64,23 +64,26 @@ fn digit(c: u8) -> Option<u32> {
 // Kind, call (in base 16), caller, D0 to D3, A0, and the bytes of a sequence or - for none.
 pub(crate) fn event(line: &[u8]) -> Event {
     let mut line = Line::new(line);
-    let unnamed = Event {
-        kind: low_byte(line.number(10)),
-        call: low_byte(line.number(16)),
-        caller: low_half(line.number(10)),
-        d0: low_half(line.number(10)),
-        d1: low_half(line.number(10)),
-        d2: low_half(line.number(10)),
-        d3: line.number(10),
-        a0: line.number(10),
-        named: false,
-        seq: [0; 16],
-    };
+    let kind = low_byte(line.number(10));
+    let call = low_byte(line.number(16));
+    let caller = low_half(line.number(10));
+    let d0 = low_half(line.number(10));
+    let d1 = low_half(line.number(10));
+    let d2 = low_half(line.number(10));
+    let d3 = line.number(10);
+    let a0 = line.number(10);
     let word = line.word();
     Event {
+        kind,
+        call,
+        caller,
+        d0,
+        d1,
+        d2,
+        d3,
+        a0,
         named: word.first().is_some_and(|c| *c != b'-'),
         seq: sequence(word),
-        ..unnamed
     }
 }
 

@@ -6,7 +6,7 @@ use crate::hand::{peek, poke};
 use crate::reading::event;
 use model::{NUMBERS, WORDS, answer_in, begin, fresh, step, turn};
 use rules::state::{Answer, Event, State};
-use std::io;
+use std::{fmt, io};
 
 // A story as far as it is played: its state, for `step`, and the same in arrays, for `turn`, until it is changed by hand.
 #[derive(Drop)]
@@ -18,14 +18,30 @@ struct Story {
     ghost sound: { Holds numbers cells },
 }
 
-// What is not 0.
-fn tell(rt: &impl Print, name: &str, n: u32) -> io::Result<()> {
+// An answer as a story tells it: its outcome, and what is not 0.
+#[derive(Clone, Copy)]
+struct Told(Answer);
+
+impl fmt::Display for Told {
+    fn fmt<W: fmt::Write>(&self, f: &mut fmt::Formatter<W>) -> fmt::Result {
+        let a = self.0;
+        f.write_str(outcome(a.kind))?;
+        tell(f, " ", u32::from(a.number))?;
+        tell(f, " woken ", u32::from(a.woken))?;
+        tell(f, " ended ", u32::from(a.ended))?;
+        tell(f, " D3 ", a.d3)?;
+        tell(f, " A0 ", a.a0)
+    }
+}
+
+fn tell<W: fmt::Write>(f: &mut fmt::Formatter<W>, name: &str, n: u32) -> fmt::Result {
     if n == 0 {
         return Ok(());
     }
-    print!(rt; "{name}{n}")
+    write!(f, "{name}{n}")
 }
 
+// The kinds of rules::state::Answer, which are numbers there.
 fn outcome(kind: u8) -> &'static str {
     match kind {
         0 => " -> done",
@@ -34,15 +50,6 @@ fn outcome(kind: u8) -> &'static str {
         3 => " -> refused",
         _ => "",
     }
-}
-
-fn tell_answer(rt: &impl Print, a: Answer) -> io::Result<()> {
-    rt.print(outcome(a.kind))?;
-    tell(rt, " ", a.number as u32)?;
-    tell(rt, " woken ", a.woken as u32)?;
-    tell(rt, " ended ", a.ended as u32)?;
-    tell(rt, " D3 ", a.d3)?;
-    tell(rt, " A0 ", a.a0)
 }
 
 fn begun() -> Story {
@@ -62,7 +69,7 @@ fn play_event(rt: &impl Print, story: &mut Story, e: Event) -> io::Result<()> {
     turn(&mut out, &mut story.numbers, &mut story.cells, e);
     let stepped = step(story.state, e);
     story.state = stepped.state;
-    tell_answer(rt, stepped.answer)?;
+    print!(rt; "{}", Told(stepped.answer))?;
     if !story.by_hand && stepped.answer != answer_in(&out) {
         print!(rt; " and turn differs")?;
     }

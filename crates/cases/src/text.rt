@@ -7,7 +7,7 @@ pub(crate) fn say(rt: &impl Print, line: &str) -> io::Result<()> {
     println!(rt; "{line}")
 }
 
-// A zero byte is written \0.
+// A zero byte is written \0, any other as it is: a Display could not, since it writes text alone.
 pub(crate) fn quote(rt: &impl Print, s: &[u8]) -> io::Result<()> {
     print!(rt; "\"")?;
     for x in s {
