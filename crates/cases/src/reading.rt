@@ -1,132 +1,104 @@
 // Lines of a story: numbers apart by spaces.
-ghost use Rattle.std.specs.Prelude.{length, ◌≤◌, ◌<◌};
+ghost use Rattle.std.specs.Prelude.{◌<◌, length, OnSome};
 
 use rules::state::Event;
 
-// A number, and the place behind it.
-#[derive(Clone, Copy)]
-pub(crate) struct Read {
-    pub value: u32,
-    pub next: usize,
+// What is left to read of a line.
+#[derive(Drop)]
+pub(crate) struct Line<'a> {
+    rest: &'a [u8],
 }
 
-pub(crate) fn first(line: &[u8]) -> u8 {
-    if 0 < line.len() { line[0] } else { 0 }
-}
+impl<'a> Line<'a> {
+    pub(crate) fn new(rest: &'a [u8]) -> Line<'a> {
+        Line { rest }
+    }
 
-pub(crate) fn is_digit(c: u8) -> bool {
-    48 <= c && c <= 57
-}
-
-pub(crate) fn line_end(text: &[u8], from: usize) -> usize
-    requires { from ≤ length text.now }
-    ensures { (from ≤ result) × (result ≤ length text.now) }
-{
-    let mut i = from;
-    while i < text.len() {
-        if text[i] == 10 {
-            return i;
+    // In base 10 or 16; what does not fit 32 bits goes.
+    pub(crate) fn number(&mut self, base: u32) -> u32 {
+        self.skip_spaces();
+        let mut value: u32 = 0;
+        while let Some(d) = self.digit(base) {
+            value = value.wrapping_mul(base).wrapping_add(d);
         }
-        i += 1;
+        value
     }
-    i
-}
 
-fn skip_spaces(line: &[u8], from: usize) -> usize {
-    let mut i = from;
-    while i < line.len() {
-        if line[i] != 32 {
-            return i;
-        }
-        i += 1;
-    }
-    i
-}
-
-// 16 where c is no digit.
-fn digit(c: u8) -> u32
-    ensures { result ≤ 16 }
-{
-    if c < 48 {
-        return 16;
-    }
-    if c <= 57 {
-        return (c - 48) as u32;
-    }
-    if 65 <= c {
-        if c <= 70 {
-            return (c - 55) as u32;
+    fn skip_spaces(&mut self) {
+        while let [b' ', rest @ ..] = self.rest {
+            self.rest = rest;
         }
     }
-    16
+
+    fn digit(&mut self, base: u32) -> Option<u32>
+        ensures { OnSome result (length self.new.rest.now < length self.old.rest.now) }
+    {
+        let (c, rest) = self.rest.split_first()?;
+        let d = digit(*c).filter(|d| *d < base)?;
+        self.rest = rest;
+        Some(d)
+    }
+
+    // Up to a space.
+    fn word(&mut self) -> &'a [u8] {
+        self.skip_spaces();
+        let end = self
+            .rest
+            .iter()
+            .position(|c| *c == b' ')
+            .unwrap_or(self.rest.len());
+        let (word, rest) = self.rest.split_at(end);
+        self.rest = rest;
+        word
+    }
 }
 
-// In base 10 or 16; what does not fit 32 bits goes.
-pub(crate) fn number(line: &[u8], from: usize, base: u32) -> Read
-    requires { base ≤ 16 }
-{
-    let mut i = skip_spaces(line, from);
-    let mut v: u32 = 0;
-    while i < line.len() {
-        let d = digit(line[i]);
-        if base <= d {
-            return Read { value: v, next: i };
-        }
-        v = ((v as u64 * base as u64 + d as u64) % 4294967296) as u32;
-        i += 1;
+fn digit(c: u8) -> Option<u32> {
+    match c {
+        b'0'..=b'9' => Some(u32::from(c - b'0')),
+        b'A'..=b'F' => Some(u32::from(c - b'A' + 10)),
+        _ => None,
     }
-    Read { value: v, next: i }
 }
 
 // Kind, call (in base 16), caller, D0 to D3, A0, and the bytes of a sequence or - for none.
 pub(crate) fn event(line: &[u8]) -> Event {
-    let kind = number(line, 0, 10);
-    let call = number(line, kind.next, 16);
-    let caller = number(line, call.next, 10);
-    let d0 = number(line, caller.next, 10);
-    let d1 = number(line, d0.next, 10);
-    let d2 = number(line, d1.next, 10);
-    let d3 = number(line, d2.next, 10);
-    let a0 = number(line, d3.next, 10);
-    let at = skip_spaces(line, a0.next);
+    let mut line = Line::new(line);
+    let kind = low_byte(line.number(10));
+    let call = low_byte(line.number(16));
+    let caller = low_half(line.number(10));
+    let d0 = low_half(line.number(10));
+    let d1 = low_half(line.number(10));
+    let d2 = low_half(line.number(10));
+    let d3 = line.number(10);
+    let a0 = line.number(10);
+    let word = line.word();
     Event {
-        kind: (kind.value % 256) as u8,
-        call: (call.value % 256) as u8,
-        caller: (caller.value % 65536) as u16,
-        d0: (d0.value % 65536) as u16,
-        d1: (d1.value % 65536) as u16,
-        d2: (d2.value % 65536) as u16,
-        d3: d3.value,
-        a0: a0.value,
-        named: names(line, at),
-        seq: sequence(line, at),
+        kind,
+        call,
+        caller,
+        d0,
+        d1,
+        d2,
+        d3,
+        a0,
+        named: word.first().is_some_and(|c| *c != b'-'),
+        seq: sequence(word),
     }
 }
 
-fn names(line: &[u8], at: usize) -> bool {
-    if at < line.len() {
-        line[at] != 45
-    } else {
-        false
-    }
+pub(crate) fn low_byte(n: u32) -> u8 {
+    (n % 256) as u8
 }
 
-// Up to a space.
-fn sequence(line: &[u8], at: usize) -> [u8; 16] {
-    let mut seq = [0u8; 16];
-    let mut i: usize = 0;
-    let mut j = at;
-    while i < 16 {
-        if line.len() <= j {
-            return seq;
-        }
-        let c = line[j];
-        if c == 32 {
-            return seq;
-        }
-        seq[i] = c;
-        i += 1;
-        j += 1;
-    }
-    seq
+pub(crate) fn low_half(n: u32) -> u16 {
+    (n % 65536) as u16
+}
+
+// The first 16 bytes of the word.
+pub(crate) fn sequence(word: &[u8]) -> [u8; 16] {
+    let mut bytes = [0; 16];
+    let n = word.len().min(16);
+    bytes[..n].copy_from_slice(&word[..n]);
+    bytes
 }

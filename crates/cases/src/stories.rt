@@ -3,10 +3,10 @@
 ghost use Rattle.turns.specs.Turn.{Holds};
 
 use crate::hand::{peek, poke};
-use crate::reading::{event, first, is_digit, line_end};
+use crate::reading::event;
 use model::{NUMBERS, WORDS, answer_in, begin, fresh, step, turn};
 use rules::state::{Answer, Event, State};
-use std::io;
+use std::{fmt, io};
 
 // A story as far as it is played: its state, for `step`, and the same in arrays, for `turn`, until it is changed by hand.
 #[derive(Drop)]
@@ -15,16 +15,33 @@ struct Story {
     numbers: [u32; NUMBERS],
     cells: [u64; WORDS],
     by_hand: bool,
+    ghost sound: { Holds numbers cells },
 }
 
-// What is not 0.
-fn tell(rt: &impl Print, name: &str, n: u32) -> io::Result<()> {
+// An answer as a story tells it: its outcome, and what is not 0.
+#[derive(Clone, Copy)]
+struct Told(Answer);
+
+impl fmt::Display for Told {
+    fn fmt<W: fmt::Write>(&self, f: &mut fmt::Formatter<W>) -> fmt::Result {
+        let a = self.0;
+        f.write_str(outcome(a.kind))?;
+        tell(f, " ", u32::from(a.number))?;
+        tell(f, " woken ", u32::from(a.woken))?;
+        tell(f, " ended ", u32::from(a.ended))?;
+        tell(f, " D3 ", a.d3)?;
+        tell(f, " A0 ", a.a0)
+    }
+}
+
+fn tell<W: fmt::Write>(f: &mut fmt::Formatter<W>, name: &str, n: u32) -> fmt::Result {
     if n == 0 {
         return Ok(());
     }
-    print!(rt; "{name}{n}")
+    write!(f, "{name}{n}")
 }
 
+// The kinds of rules::state::Answer, which are numbers there.
 fn outcome(kind: u8) -> &'static str {
     match kind {
         0 => " -> done",
@@ -35,27 +52,7 @@ fn outcome(kind: u8) -> &'static str {
     }
 }
 
-fn tell_answer(rt: &impl Print, a: Answer) -> io::Result<()> {
-    rt.print(outcome(a.kind))?;
-    tell(rt, " ", a.number as u32)?;
-    tell(rt, " woken ", a.woken as u32)?;
-    tell(rt, " ended ", a.ended as u32)?;
-    tell(rt, " D3 ", a.d3)?;
-    tell(rt, " A0 ", a.a0)
-}
-
-fn same(a: Answer, b: Answer) -> bool {
-    a.kind == b.kind
-        && a.number == b.number
-        && a.woken == b.woken
-        && a.ended == b.ended
-        && a.d3 == b.d3
-        && a.a0 == b.a0
-}
-
-fn begun() -> Story
-    ensures { Holds result.numbers result.cells }
-{
+fn begun() -> Story {
     let mut numbers = [0u32; NUMBERS];
     begin(&mut numbers);
     Story {
@@ -67,48 +64,40 @@ fn begun() -> Story
 }
 
 // What `step` answers; it should be what `turn` does too, where the story has not changed the state by hand.
-fn play_event(rt: &impl Print, story: &mut Story, e: Event) -> io::Result<()>
-    requires { Holds story.old.numbers story.old.cells }
-    ensures { Holds story.new.numbers story.new.cells }
-{
+fn play_event(rt: &impl Print, story: &mut Story, e: Event) -> io::Result<()> {
     let mut out = [0u32; 4];
     turn(&mut out, &mut story.numbers, &mut story.cells, e);
     let stepped = step(story.state, e);
     story.state = stepped.state;
-    tell_answer(rt, stepped.answer)?;
-    if !story.by_hand && !same(stepped.answer, answer_in(&out)) {
+    print!(rt; "{}", Told(stepped.answer))?;
+    if !story.by_hand && stepped.answer != answer_in(&out) {
         print!(rt; " and turn differs")?;
     }
     Ok(())
 }
 
-fn play_line(rt: &impl Print, story: &mut Story, line: &[u8]) -> io::Result<()>
-    requires { Holds story.old.numbers story.old.cells }
-    ensures { Holds story.new.numbers story.new.cells }
-{
+fn play_line(rt: &impl Print, story: &mut Story, line: &[u8]) -> io::Result<()> {
     rt.write_all(line)?;
-    let mark = first(line);
-    if mark == b'=' {
-        *story = begun();
-    } else if mark == b'!' {
-        story.state = poke(story.state, line);
-        story.by_hand = true;
-    } else if mark == b'?' {
-        let field = peek(story.state, line);
-        print!(rt; " -> {field}")?;
-    } else if is_digit(mark) {
-        play_event(rt, story, event(line))?;
+    match line {
+        [b'=', ..] => *story = begun(),
+        [b'!', rest @ ..] => {
+            poke(&mut story.state, rest);
+            story.by_hand = true;
+        }
+        [b'?', rest @ ..] => {
+            let field = peek(&story.state, rest);
+            print!(rt; " -> {field}")?;
+        }
+        [b'0'..=b'9', ..] => play_event(rt, story, event(line))?,
+        _ => {}
     }
     println!(rt; "")
 }
 
 fn play(rt: &impl Print, text: &[u8]) -> io::Result<()> {
     let mut story = begun();
-    let mut at: usize = 0;
-    while at < text.len() {
-        let end = line_end(text, at);
-        play_line(rt, &mut story, &text[at..end])?;
-        at = end + 1;
+    for line in text.split_inclusive(|c| *c == b'\n') {
+        play_line(rt, &mut story, line.strip_suffix(b"\n").unwrap_or(line))?;
     }
     Ok(())
 }

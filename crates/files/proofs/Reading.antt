@@ -1,16 +1,8 @@
 -- What reads that come one after another give. Assumes nothing.
-use Rattle.std.proofs.Common.{◌≡◌, ℕ, ◌+◌, ◌-◌, ◌≤◌, List, ◌++◌, length, take, drop, sym, ap, ◌∙◌, append_assoc}
-use Rattle.std.specs.Prelude.{Option, None, Some}
+use Rattle.std.proofs.Common.{◌≡◌, ℕ, ◌+◌, ◌-◌, ◌≤◌, List, ◌++◌, length, take, drop, sym, ap, ◌∙◌}
 use Rattle.std.proofs.Math.Seq.{take-append-add, length-take-le}
 use Rattle.std.proofs.lemmas.List.{take-append-le}
-use Rattle.std.specs.Io.KnownBytes.{Consumes}
 use borrow.Rule.Slice.PartMut.{put_mid}
-
-pub consumes_more : (old mid new : Option (List ℕ)) (a b : List ℕ) → Consumes old mid a → Consumes mid new b → Consumes old new (a ++ b)
-consumes_more None mid new a b p q = tt
-consumes_more (Some xs) None new a b p q = absurd p
-consumes_more (Some xs) (Some ys) None a b p q = absurd q
-consumes_more (Some xs) (Some ys) (Some zs) a b p q = p ∙ ap (λ x. a ++ x) q ∙ sym (append_assoc a b zs)
 
 -- n bytes of y stand behind the first k of x now
 pub take_read : (x y : List ℕ) (k n : ℕ) → k ≤ length x → n ≤ length y → take (k + n) (put_mid k (length x - k) x y) ≡ take k x ++ take n y

@@ -15,6 +15,7 @@ pub fn fill<R: Read>(input: &mut R, buf: &mut [u8]) -> io::Result<usize>
     ensures bytes { IfOk result (λ n. Consumes (R.remaining input.old) (R.remaining input.new) (take n buf.new)) }
     ensures whole { IfOk result (λ n. n < length buf.new → IsAtEnd (R.remaining input.new)) }
 {
+    // std's read_to_end takes a Vec, and the project has no heap; its read_exact fails where the input ends first.
     let mut done = 0;
     while done < buf.len() {
         let n = input.read(&mut buf[done..])?;
@@ -30,13 +31,10 @@ pub fn fill<R: Read>(input: &mut R, buf: &mut [u8]) -> io::Result<usize>
 fn fill_from_file<F: Files>(rt: &F, path: &[u8], buf: &mut [u8]) -> io::Result<usize>
     ensures { IfOk result (λ n. IsPrefixLen n buf.new) }
 {
-    match str::from_utf8(path) {
-        Ok(name) => {
-            let mut file = fs::open(rt, name)?;
-            fill(&mut file, buf)
-        }
-        Err(_) => Ok(0),
-    }
+    let Ok(name) = str::from_utf8(path) else {
+        return Ok(0);
+    };
+    fill(&mut fs::open(rt, name)?, buf)
 }
 
 // Puts a file at the start of buf, and answers how many bytes of it are there: all of them, or buf's length where the file has as many or more.
@@ -44,10 +42,7 @@ fn fill_from_file<F: Files>(rt: &F, path: &[u8], buf: &mut [u8]) -> io::Result<u
 pub fn load<F: Files>(rt: &F, path: &[u8], buf: &mut [u8]) -> usize
     ensures { IsPrefixLen result buf.new }
 {
-    match fill_from_file(rt, path, buf) {
-        Ok(n) => n,
-        Err(_) => 0,
-    }
+    fill_from_file(rt, path, buf).unwrap_or(0)
 }
 
 // Says on standard error what has failed, if something has: its name, a colon and the system's words.

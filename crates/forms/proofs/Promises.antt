@@ -18,7 +18,6 @@ use Rattle.papers.specs.Fields.{paper_of}
 use Rattle.papers.specs.Entries.{entries_from, entries_of, sequences_of}
 use Rattle.papers.specs.declared.entries.Entry.{Entry}
 use Rattle.papers.specs.Fields.{Read}
-use Rattle.std.specs.declared.result.Result.TheVariants as read
 use Rattle.papers.proofs.Runs.{sixteens-count}
 use Rattle.papers.proofs.Files.{Paper, PaperRead, broken, empty, some, paper-has, paper-read}
 use Rattle.forms.specs.declared.items.Writer.{Writer}
@@ -409,10 +408,10 @@ record Accepted (p : List ℕ) : Type 0 where
   paper : Paper p
   some-events : 1 ≤ event_count p
 
-accepted : (p : List ℕ) (n : ℕ) → paper_of p ≡ read.Ok n → Accepted p
+accepted : (p : List ℕ) (n : ℕ) → paper_of p ≡ Ok n → Accepted p
 accepted p n = go (paper-read p)
   where
-    go : {r : Read} → PaperRead p r → r ≡ read.Ok n → Accepted p
+    go : {r : Read} → PaperRead p r → r ≡ Ok n → Accepted p
     go (broken offset m q h) e = cc
     go (empty h k) e = cc
     go (some f k) e = record { paper = f; some-events = k }

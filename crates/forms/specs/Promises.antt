@@ -7,7 +7,6 @@ use Rattle.papers.specs.Fields.{paper_of}
 use Rattle.papers.specs.Events.{events_of}
 use Rattle.papers.specs.Entries.{entries_of, sequences_of}
 use Rattle.papers.specs.declared.layout.Refusal.TheVariants as file
-use Rattle.std.specs.declared.result.Result.TheVariants as read
 use Rattle.papers.specs.declared.entries.Entry.{Entry}
 use Rattle.forms.specs.declared.items.Writer.{Writer}
 use Rattle.forms.specs.declared.items.Refusal.{Refusal}
@@ -27,8 +26,8 @@ pub record Holds (es : List Entry) (ss : List (List ℕ)) : Type 0 where
 -- §3: "Once it has an event, the reader reads back the same events and sequences"; before that it is sound in all else
 pub record ReadBack (es : List Entry) (ss : List (List ℕ)) (p : List ℕ) : Type 0 where
   pub fits : paper_fits p ≡ true
-  pub accepted : 1 ≤ length es → paper_of p ≡ read.Ok (length es)
-  pub blank : length es ≡ 0 → paper_of p ≡ read.Err file.Blank
+  pub accepted : 1 ≤ length es → paper_of p ≡ Ok (length es)
+  pub blank : length es ≡ 0 → paper_of p ≡ Err file.Blank
   pub entries : entries_of p ≡ es
   pub sequences : sequences_of p ≡ ss
   pub events : events_of p ≡ map (event_of ss) es
@@ -150,5 +149,5 @@ WritesAll =
 -- §3: "every accepted paper, read and written again, gives its own bytes"
 abbrev pub WrittenAgain : Type 0
 WrittenAgain =
-    (p b : List ℕ) (n : ℕ) → Bytes p → paper_of p ≡ read.Ok n → length p ≤ length b
+    (p b : List ℕ) (n : ℕ) → Bytes p → paper_of p ≡ Ok n → length p ≤ length b
     → added_all (Ok new_writer, b) (items (entries_of p) (sequences_of p)) ≡ (Ok (counts (event_count p) (sequence_count p)), in_front p b)

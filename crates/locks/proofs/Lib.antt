@@ -7,6 +7,7 @@ pub mod Pieces
 pub mod Closing
 pub mod Padding
 pub mod Telling
+pub mod Converting
 pub mod Gaps
 pub mod Named
 pub mod Cases
