@@ -2,13 +2,14 @@
 use Prim.Native.Nat.{ℕ, zero, suc, ◌+◌, ◌*◌, ◌/◌, ◌%◌, ◌<◌}
 use native.Mathlib.Omega.{arith}
 use mathlib.Core.Path.{◌≡◌, refl, sym, ap, ◌∙◌}
-use mathlib.Core.Bool.{true, false}
+use mathlib.Core.Bool.{Bool, true, false, ◌&&◌}
+use lib.Dec.{eqb}
 use mathlib.Core.List.{List, [], ◌∷◌, ◌++◌}
 use lib.ListN.{length, get_or}
 use lib.Seq.{get_or-append-add}
-use Rattle.std.proofs.lemmas.Grind.{same_number_lists}
+use lib.ListN.{get_or-append}
+use Rattle.std.proofs.lemmas.Bool.Decides.{nat_tests}
 use Rattle.locks.specs.Lists.{agree}
-use Rattle.locks.proofs.Tests.{off}
 use Rattle.locks.proofs.Loops.{agree-self, agree_at}
 use Rattle.rules.specs.declared.state.Answer.{Answer}
 use Rattle.papers.specs.Bytes.{number16, number32, bytes32}
@@ -34,61 +35,52 @@ reply-answer a f =
     let q : a.ended * 65536 % 65536 ≡ 0 = omega arith in
     rw (h, l, g, m, p, q)
 
--- ---- numbers and their bytes
+-- ---- equal numbers are equal bytes
 
-number-bytes : (b c d e : ℕ) → c < 256 → d < 256 → e < 256 → bytes32 ((b * 256 + c) * 65536 + (d * 256 + e)) ≡ b ∷ c ∷ d ∷ e ∷ []
-number-bytes b c d e hc hd he =
-    let x = (b * 256 + c) * 65536 + (d * 256 + e) in
-    let h : x / 65536 ≡ b * 256 + c = omega arith in
-    let l : x % 65536 ≡ d * 256 + e = omega arith in
-    let i : (b * 256 + c) / 256 ≡ b = omega arith in
-    let j : (b * 256 + c) % 256 ≡ c = omega arith in
-    let k : (d * 256 + e) / 256 ≡ d = omega arith in
-    let m : (d * 256 + e) % 256 ≡ e = omega arith in
-    rw (h, l, i, j, k, m)
+-- the bytes of number k
+reply-byte : (a : List ℕ) (k i : ℕ) → k < length a → i < 4 → get_or (reply_bytes a) (4 * k + i) 0 ≡ get_or (bytes32 (get_or a k 0)) i 0
+reply-byte [] k i h l = absurd (omega arith)
+reply-byte (x ∷ a) zero i h l = let e : 4 * 0 + i ≡ i = omega arith in rw e (get_or-append (bytes32 x) (reply_bytes a) 0 i l)
+reply-byte (x ∷ a) (suc k) i h l =
+    let e : 4 * suc k + i ≡ 4 + (4 * k + i) = omega arith in
+    rw e (get_or-append-add (bytes32 x) (reply_bytes a) (4 * k + i) 0 ∙ reply-byte a k i (omega arith) l)
 
-reply-long : (a : List ℕ) → length (reply_bytes a) ≡ 4 * length a
-reply-long [] = refl
-reply-long (x ∷ a) = omega (arith, reply-long a)
+-- four bytes, and the numbers that they are
+four-same : (b c d e b' c' d' e' : ℕ) → c < 256 → d < 256 → e < 256 → c' < 256 → d' < 256 → e' < 256
+    → eqb ((b' * 256 + c') * 65536 + (d' * 256 + e')) ((b * 256 + c) * 65536 + (d * 256 + e)) ≡ (eqb b b' && eqb c c' && eqb d d' && eqb e e')
+four-same b c d e b' c' d' e' hc hd he hc' hd' he' = grind (arith, nat_tests)
 
-behind : (h r : List ℕ) (j : ℕ) → number32 (h ++ r) (length h + j) ≡ number32 r j
-unfolding number32 number16
-behind h r j =
-    let e : length h + j + 1 ≡ length h + (j + 1) = omega arith in
-    let f : length h + j + 2 + 1 ≡ length h + (j + 2 + 1) = omega arith in
-    let g : length h + j + 2 ≡ length h + (j + 2) = omega arith in
-    rw (e, f, g, get_or-append-add h r j 0, get_or-append-add h r (j + 1) 0, get_or-append-add h r (j + 2) 0, get_or-append-add h r (j + 2 + 1) 0)
+number-same : (x b c d e : ℕ) → c < 256 → d < 256 → e < 256
+    → eqb ((b * 256 + c) * 65536 + (d * 256 + e)) x ≡ (eqb (x / 65536 / 256) b && eqb (x / 65536 % 256) c && eqb (x % 65536 / 256) d && eqb (x % 65536 % 256) e)
+number-same x b c d e hc hd he =
+    let s : (x / 65536 / 256 * 256 + x / 65536 % 256) * 65536 + (x % 65536 / 256 * 256 + x % 65536 % 256) ≡ x = omega arith in
+    rw s at (four-same (x / 65536 / 256) (x / 65536 % 256) (x % 65536 / 256) (x % 65536 % 256) b c d e (omega arith) (omega arith) (omega arith) hc hd he)
 
--- numbers are read back from their bytes
-read-back : (a : List ℕ) (k : ℕ) → k < length a → number32 (reply_bytes a) (4 * k) ≡ get_or a k 0
-unfolding number32 number16
-read-back [] k h = absurd (omega arith)
-read-back (x ∷ a) zero h = omega arith
-read-back (x ∷ a) (suc k) h = let e : 4 * suc k ≡ 4 + 4 * k = omega arith in rw e (behind (bytes32 x) (reply_bytes a) (4 * k) ∙ read-back a k (omega arith))
+and-four : (t p q r s : Bool) → (t && p && q && r && s) ≡ (t && (p && q && r && s))
+and-four true p q r s = refl
+and-four false p q r s = refl
 
--- bytes are those of the numbers that are read there
-made-of : (a bytes : List ℕ) → length bytes ≡ 4 * length a → ((i : ℕ) → get_or bytes i 0 < 256) → ((k : ℕ) → k < length a → number32 bytes (4 * k) ≡ get_or a k 0) → bytes ≡ reply_bytes a
-unfolding number32 number16
-made-of [] [] l small h = refl
-made-of [] (b ∷ bytes) l small h = absurd (omega arith)
-made-of (x ∷ a) [] l small h = absurd (omega arith)
-made-of (x ∷ a) (b ∷ []) l small h = absurd (omega arith)
-made-of (x ∷ a) (b ∷ c ∷ []) l small h = absurd (omega arith)
-made-of (x ∷ a) (b ∷ c ∷ d ∷ []) l small h = absurd (omega arith)
-made-of (x ∷ a) (b ∷ c ∷ d ∷ e ∷ bytes) l small h =
-    let front = b ∷ c ∷ d ∷ e ∷ [] in
-    let n : x ≡ (b * 256 + c) * 65536 + (d * 256 + e) = sym (h 0 (omega arith)) in
-    let f : (k : ℕ) → 4 * suc k ≡ 4 + 4 * k = λ k. omega arith in
-    rw (made-of a bytes (omega arith) (λ i. small (suc (suc (suc (suc i))))) (λ k q. sym (behind front bytes (4 * k)) ∙ rw (f k) at (h (suc k) (omega arith))))
-    (ap (λ r. r ++ reply_bytes a) (sym (ap bytes32 n ∙ number-bytes b c d e (small 1) (small 2) (small 3))))
-
-module _ (a bytes : List ℕ) (l : length a ≡ 4) (m : length bytes ≡ 16) where
-  pub stands : ((i : ℕ) → get_or bytes i 0 < 256) → ((k : ℕ) → k < 4 → number32 bytes (4 * k) ≡ get_or a k 0) → agree 16 (reply_bytes a) bytes ≡ true
-  stands small h = rw (made-of a bytes (omega arith) small (λ k q. h k (omega arith))) (agree-self 16 (reply_bytes a))
-
-  pub stands-not : (k : ℕ) → k < 4 → (number32 bytes (4 * k) ≡ get_or a k 0 → ⊥) → agree 16 (reply_bytes a) bytes ≡ false
-  stands-not k h d =
-      off (agree 16 (reply_bytes a) bytes)
-      (λ t.
-      let e : bytes ≡ reply_bytes a = same_number_lists bytes (reply_bytes a) (omega (arith, reply-long a)) (λ i q. sym (agree_at 16 (reply_bytes a) bytes t i (omega arith))) in
-      d (rw e (read-back a k (omega arith))))
+-- one number more
+pub agree-next : (a y : List ℕ) (k : ℕ) → k < length a → ((i : ℕ) → get_or y i 0 < 256)
+    → agree (4 * (k + 1)) (reply_bytes a) y ≡ (agree (4 * k) (reply_bytes a) y && eqb (number32 y (4 * k)) (get_or a k 0))
+unfolding agree number32 number16
+agree-next a y k h small =
+    let e : 4 * (k + 1) ≡ suc (suc (suc (suc (4 * k)))) = omega arith in
+    let e₁ : suc (4 * k) ≡ 4 * k + 1 = omega arith in
+    let e₂ : suc (suc (4 * k)) ≡ 4 * k + 2 = omega arith in
+    let e₃ : suc (suc (suc (4 * k))) ≡ 4 * k + 3 = omega arith in
+    let f : 4 * k + 2 + 1 ≡ 4 * k + 3 = omega arith in
+    let b₀ : get_or (reply_bytes a) (4 * k) 0 ≡ get_or a k 0 / 65536 / 256 = (let g : 4 * k + 0 ≡ 4 * k = omega arith in rw g at (reply-byte a k 0 h (omega arith))) in
+    rw (
+      e,
+      e₃,
+      e₂,
+      e₁,
+      f,
+      b₀,
+      reply-byte a k 1 h (omega arith),
+      reply-byte a k 2 h (omega arith),
+      reply-byte a k 3 h (omega arith),
+      number-same (get_or a k 0) (get_or y (4 * k) 0) (get_or y (4 * k + 1) 0) (get_or y (4 * k + 2) 0) (get_or y (4 * k + 3) 0) (small (4 * k + 1)) (small (4 * k + 2)) (small (4 * k + 3)),
+    )
+    (and-four (agree (4 * k) (reply_bytes a) y) _ _ _ _)
