@@ -1,16 +1,15 @@
 -- Answers as four numbers, and their bytes. Assumes nothing.
 use Prim.Native.Nat.{ℕ, zero, suc, ◌+◌, ◌*◌, ◌/◌, ◌%◌, ◌<◌}
 use native.Mathlib.Omega.{arith}
-use mathlib.Core.Path.{◌≡◌, refl, sym, ap, ◌∙◌}
+use mathlib.Core.Path.{◌≡◌, refl, ◌∙◌}
 use mathlib.Core.Bool.{Bool, true, false, ◌&&◌}
 use lib.Dec.{eqb}
-use mathlib.Core.List.{List, [], ◌∷◌, ◌++◌}
+use mathlib.Core.List.{List, [], ◌∷◌}
 use lib.ListN.{length, get_or}
 use lib.Seq.{get_or-append-add}
 use lib.ListN.{get_or-append}
 use Rattle.std.proofs.lemmas.Bool.Decides.{nat_tests}
 use Rattle.locks.specs.Lists.{agree}
-use Rattle.locks.proofs.Loops.{agree-self, agree_at}
 use Rattle.rules.specs.declared.state.Answer.{Answer}
 use Rattle.papers.specs.Bytes.{number16, number32, bytes32}
 use Rattle.papers.specs.Answers.{answer_bytes, reply_bytes, Fitting}

@@ -30,7 +30,13 @@ pub(crate) fn lay_event(out: &mut [u8], events: u16, sequences: u16, e: Entry)
 {
     let header = paper_header(events + 1, sequences);
     let behind = 16 * (sequences as usize);
-    lay(out, &header, 20 * (events as usize), behind, &entry_bytes(e));
+    lay(
+        out,
+        &header,
+        20 * (events as usize),
+        behind,
+        &entry_bytes(e),
+    );
 }
 
 // One sequence more, behind the sequences of a paper without events: the count is the one before it.

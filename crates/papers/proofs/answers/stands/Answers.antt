@@ -1,8 +1,6 @@
 -- `papers::answers::stands` meets its contract. Assumes nothing.
-use Rattle.std.proofs.Common.{◌≡◌, ◌+◌, ◌*◌, sym, ◌∙◌, ap, refl, arith}
+use Rattle.std.proofs.Common.{◌≡◌, sym, refl, arith}
 use Rattle.locks.specs.Lists.{agree}
-use Rattle.papers.specs.Answers.{reply_bytes}
-use Rattle.papers.proofs.Runs.{run-small}
 use Rattle.papers.proofs.Replies.{agree-next}
 use Rattle.papers.proofs.answers.stands.Goals as goal
 

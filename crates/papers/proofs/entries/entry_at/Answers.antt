@@ -1,7 +1,6 @@
 -- `papers::entries::entry_at` meets its contract. Assumes nothing.
 use Rattle.std.proofs.Common.{arith}
 use Rattle.papers.specs.Entries.{entry_at}
-use Rattle.papers.proofs.Runs.{run-at}
 use Rattle.papers.proofs.Numbers.{within16, within32}
 use Rattle.papers.proofs.entries.entry_at.Goals as goal
 
