@@ -1,5 +1,5 @@
 // An event as the paper has it.
-ghost use Rattle.std.specs.Prelude.{◌≡◌, ◌≤◌};
+ghost use Rattle.std.specs.Prelude.{◌≡◌};
 ghost use Rattle.papers.specs.Bytes.{run};
 ghost use Rattle.papers.specs.Entries.{entry_at};
 
@@ -21,20 +21,19 @@ pub struct Entry {
 
 // The event whose 20 bytes stand at `at`.
 pub(crate) fn entry_at(file: &[u8], at: u32) -> Entry
-    requires { at ≤ 2000000 }
     ensures { result ≡ entry_at file.now at }
 {
-    let from = at as usize;
+    let bytes: [u8; 20] = bytes_at(file, at);
     Entry {
-        kind: byte(file, from),
-        call: byte(file, from + 1),
-        caller: number(file, at + 2),
-        d0: number(file, at + 4),
-        d1: number(file, at + 6),
-        d2: number(file, at + 8),
-        d3: long_number(file, at + 10),
-        a0: long_number(file, at + 14),
-        sequence: number(file, at + 18),
+        kind: bytes[0],
+        call: bytes[1],
+        caller: number(&bytes, 2),
+        d0: number(&bytes, 4),
+        d1: number(&bytes, 6),
+        d2: number(&bytes, 8),
+        d3: long_number(&bytes, 10),
+        a0: long_number(&bytes, 14),
+        sequence: number(&bytes, 18),
     }
 }
 
@@ -49,5 +48,5 @@ pub fn entry_of(event: &[u8]) -> Entry
 pub fn sequence_of(sequence: &[u8]) -> [u8; 16]
     ensures { result ≡ run sequence.now 0 16 }
 {
-    sixteen(sequence, 0)
+    bytes_at(sequence, 0)
 }

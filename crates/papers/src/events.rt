@@ -1,5 +1,5 @@
 // The events of a paper.
-ghost use Rattle.std.specs.Prelude.{◌≡◌, ◌+◌, ◌*◌, ◌≤◌, length};
+ghost use Rattle.std.specs.Prelude.{◌≡◌, ◌+◌, ◌*◌};
 ghost use Rattle.papers.specs.Events.{sequence_of, event_at};
 
 use crate::bytes::*;
@@ -14,41 +14,14 @@ fn sequence(p: &[u8], n: u16) -> [u8; 16]
         return [0; 16];
     }
     let from = number(p, 8) as u32;
-    sixteen(p, from + 16 * ((n - 1) as u32))
-}
-
-// The event whose 20 bytes stand at `at`, which the paper has.
-fn event_within(p: &[u8], at: usize) -> Event
-    requires { at + 20 ≤ length p.now }
-    ensures { result ≡ event_at p.now at }
-{
-    let n = two(p, at + 18);
-    let seq = sequence(p, n);
-    Event {
-        kind: p[at],
-        call: p[at + 1],
-        caller: two(p, at + 2),
-        d0: two(p, at + 4),
-        d1: two(p, at + 6),
-        d2: two(p, at + 8),
-        d3: four(p, at + 10),
-        a0: four(p, at + 14),
-        named: n != 0,
-        seq: seq,
-    }
+    bytes_at(p, from + 16 * ((n - 1) as u32))
 }
 
 // Event i of a paper, counted from 0.
 pub fn event(p: &[u8], i: u16) -> Event
     ensures { result ≡ event_at p.now (12 + 20 * i) }
 {
-    let at = 12 + 20 * (i as u32);
-    let from = at as usize;
-    if from + 20 <= p.len() {
-        return event_within(p, from);
-    }
-    let e = entry_at(p, at);
-    let seq = sequence(p, e.sequence);
+    let e = entry_at(p, 12 + 20 * (i as u32));
     Event {
         kind: e.kind,
         call: e.call,
@@ -59,6 +32,6 @@ pub fn event(p: &[u8], i: u16) -> Event
         d3: e.d3,
         a0: e.a0,
         named: e.sequence != 0,
-        seq: seq,
+        seq: sequence(p, e.sequence),
     }
 }

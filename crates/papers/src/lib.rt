@@ -8,7 +8,6 @@ mod events;
 pub mod layout;
 
 pub use crate::answers::{answer_bytes, header, place, put_reply, stands_at};
-pub use crate::bytes::{high, high_half, low, low_half};
 pub use crate::entries::{entry_of, sequence_of};
 pub use crate::events::event;
 pub use crate::layout::{paper, sheet};

@@ -1,8 +1,6 @@
 -- `papers::bytes::number` meets its contract. Assumes nothing.
-use borrow.Author.Rules.{rules}
-use Rattle.papers.specs.Bytes.{number16}
+use Rattle.papers.proofs.Numbers.{read16}
 use Rattle.papers.proofs.bytes.number.Goals as goal
 
 pub returns : goal.returns
-unfolding number16
-returns c = search rules
+returns c = rw (c.from_be_bytes.ensures, c.bytes_at.ensures) (read16 c.args.file.now c.args.at)

@@ -2,9 +2,6 @@
 use Rattle.papers.specs.Events.{event_at}
 use Rattle.papers.proofs.events.event.Goals as goal
 
-pub returns-then-from-p : goal.returns-then-from-p
-returns-then-from-p c = c.event_within.ensures
-
 pub returns : goal.returns
 unfolding event_at
-returns c = rw (c.sequence-seq.ensures, c.entry_at-e.ensures)
+returns c = rw (c.sequence.ensures, c.entry_at-e.ensures)

@@ -8,4 +8,4 @@ unfolding sequence_of
 returns-then-n-eq0 c = rw c.if-n-eq0.true
 
 pub returns : goal.returns
-returns c = rw (sequence-at c.args.p.now c.args.n c.if-n-eq0.false, ← c.number-from.ensures) c.sixteen.ensures
+returns c = rw (sequence-at c.args.p.now c.args.n c.if-n-eq0.false, ← c.number-from.ensures) c.bytes_at.ensures
