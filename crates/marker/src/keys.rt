@@ -7,7 +7,7 @@ ghost use Rattle.papers.specs.Events.{events_from};
 ghost use Rattle.papers.specs.Answers.{answer_bytes, sheet_header};
 ghost use Rattle.marker.specs.Key.{keyed};
 
-use model::{NUMBERS, WORDS, begin, turn};
+use model::System;
 use papers::layout::Refusal;
 use papers::{event, header, paper, put_reply};
 
@@ -16,15 +16,10 @@ fn put_answers(p: &[u8], n: u16, out: &mut [u8])
     requires { 16 * n ≤ length out.old }
     ensures { out.new ≡ joined (map answer_bytes (answers_from (laid fresh) (events_from p.now 12 n))) ++ drop (16 * n) out.old }
 {
-    let mut m = [0u32; NUMBERS];
-    let mut t = [0u64; WORDS];
-    begin(&mut m);
-    let mut i: u16 = 0;
-    while i < n {
-        let mut a = [0u32; 4];
-        turn(&mut a, &mut m, &mut t, event(p, i));
-        put_reply(&mut out[16 * (i as usize)..], &a);
-        i += 1;
+    let mut system = System::fresh();
+    for i in 0..n {
+        let answer = system.turn(event(p, i));
+        put_reply(&mut out[16 * (i as usize)..], &answer);
     }
 }
 

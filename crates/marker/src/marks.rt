@@ -7,7 +7,7 @@ ghost use Rattle.papers.specs.Events.{events_from};
 ghost use Rattle.papers.specs.Answers.{answer_bytes};
 ghost use Rattle.marker.specs.Mark.{right_places, marked, is_perfect};
 
-use model::{NUMBERS, WORDS, begin, turn};
+use model::System;
 use papers::layout::Refusal;
 use papers::{event, paper, sheet, stands_at};
 
@@ -24,18 +24,13 @@ pub struct Counts {
 fn right_places(p: &[u8], sheet: &[u8], n: u16) -> u16
     ensures { result ≡ right_places (map answer_bytes (answers_from (laid fresh) (events_from p.now 12 n))) (sixteens_from sheet.now 6 n) }
 {
-    let mut m = [0u32; NUMBERS];
-    let mut t = [0u64; WORDS];
-    begin(&mut m);
+    let mut system = System::fresh();
     let mut right: u16 = 0;
-    let mut i: u16 = 0;
-    while i < n {
-        let mut a = [0u32; 4];
-        turn(&mut a, &mut m, &mut t, event(p, i));
-        if stands_at(sheet, i, &a) {
+    for i in 0..n {
+        let answer = system.turn(event(p, i));
+        if stands_at(sheet, i, &answer) {
             right += 1;
         }
-        i += 1;
     }
     right
 }

@@ -110,14 +110,3 @@ numbered {m} ps {live} {used} {next} u few e =
       few = few;
       whole = u.whole;
     }
-
--- ---- rows
-
-pub cell-tells : (r : Row) {w : Words} {k : ℕ} → Worded r.bytes w → k ≡ r.len + cond r.shared 256 0 → fit_row r ≡ true
-    → Tells (record { owner = r.owner; kind = k; low = w.low; high = w.high }) r
-unfolding words whole_row
-cell-tells r {w} {k} b e h =
-    record {
-      words = λ i. r.owner ∷ sym e i ∷ sym b.first i ∷ sym b.last i ∷ [];
-      whole = and-join (fit_row r && eqb (length r.bytes) 16) (all is_byte r.bytes) (and-join (fit_row r) (eqb (length r.bytes) 16) h (eq-eqb (length r.bytes) 16 b.long)) b.small;
-    }

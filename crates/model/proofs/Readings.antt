@@ -1,12 +1,8 @@
 -- A state read out of the arrays: each process and each row from its numbers, which fit. Assumes nothing.
-use Rattle.std.specs.Int.{to_le_bytes}
-use Rattle.std.proofs.Common.{w64}
-use Rattle.std.proofs.Math.Nat.{div-div-eq-div-mul}
-use Rattle.locks.specs.Words.{digits}
 use Prim.Native.Nat.{ℕ, zero, suc, ◌+◌, ◌*◌, ◌^◌, ◌≤◌, ◌<◌}
 use native.Mathlib.Nat.{le_of_suc-le-suc, not-suc-le-zero, suc-mul}
 use native.Mathlib.Omega.{arith}
-use mathlib.Core.Path.{◌≡◌, sym, ap, ◌∙◌, subst}
+use mathlib.Core.Path.{◌≡◌, refl, sym, ap, ◌∙◌, subst}
 use mathlib.Core.Bool.{Bool, true, false, false≢true, and-eq-true_iff}
 use mathlib.Core.List.{List, [], ◌∷◌}
 use lib.Dec.{eqb, leb}
@@ -34,7 +30,7 @@ use Rattle.rules.specs.declared.state.Stepped.{Stepped}
 use Rattle.rules.proofs.Numbers.{mask-small, number-small}
 use Rattle.rules.proofs.Frame.{Ok, ascend-le, fit-ascend, fit_next}
 use Rattle.rules.proofs.Sane.{sane}
-use Rattle.locks.specs.Cells.{CELL, HIGH, KIND, LOW, OWNER, row_in, rows_in}
+use Rattle.locks.specs.Cells.{cell_at, four, CELL, HIGH, KIND, LOW, OWNER, row_in, rows_in}
 use Rattle.model.specs.Fields.{Narrow, Slim, Small, number_at, process_at, row_at}
 use Rattle.locks.specs.Pieces.{parted}
 use Rattle.places.specs.Places.{ALARM, GROUP, LEFT, LIVE, Lays, NEXT, PENDING, PID, PLACE, PRIORITY, REACTIONS, SECONDS, SLEEP, TRAPS, USED, USER, WAKE, machine, process_in, procs_in, small_ids, whole}
@@ -53,19 +49,6 @@ parted-get g w (suc n) m zero d l = let e : 0 * w ≡ 0 = omega arith in rw e
 parted-get g w (suc n) m (suc i) d l =
     let e : suc i * w ≡ w + i * w = rw (suc-mul i w) (omega arith) in
     parted-get g w n (drop w m) i d (le_of_suc-le-suc l) ∙ ap g (drop-drop (i * w) w m ∙ ap (λ (k : ℕ). drop k m) (sym e))
-
--- ---- the bytes of a number
-
-pub digits-bytes : (n : ℕ) → to_le_bytes w64 n ≡ digits 8 n
-digits-bytes n =
-    rw (
-      div-div-eq-div-mul n 256 256,
-      div-div-eq-div-mul n 65536 256,
-      div-div-eq-div-mul n 16777216 256,
-      div-div-eq-div-mul n 4294967296 256,
-      div-div-eq-div-mul n 1099511627776 256,
-      div-div-eq-div-mul n 281474976710656 256,
-    )
 
 -- ---- one process, one row
 
@@ -101,6 +84,11 @@ module _ (t : List ℕ) (i : ℕ) where
   row_is : row_in (drop (i * CELL) t) ≡ row_at t i
   unfolding row_in
   row_is = rw (four OWNER, four KIND, four LOW, four HIGH)
+
+  -- a cell is read as its row
+  pub cell-row : row_in (four (cell_at t i)) ≡ row_at t i
+  unfolding row_in
+  cell-row = refl
 
   pub row_here : (used : ℕ) → i < used → row_at t i ≡ get_or (rows_in t used) i no_row
   unfolding rows_in

@@ -11,8 +11,7 @@ ghost use Rattle.locks.specs.Cells.{CELL, CELLS, WORDS, Rows, Tells};
 ghost use Rattle.model.specs.Fields.{Slim, Unnumbered, fields, plain_at, seven_at, three_at};
 
 use locks::cells::*;
-use locks::rows::{Row, Table};
-use locks::words::words_of;
+use locks::rows::Row;
 use places::arrays::Arrays;
 use places::fields::*;
 use rules::state::*;
@@ -71,29 +70,13 @@ fn put_processes(procs: &[Process], m: &mut Numbers)
     }
 }
 
-fn cell_of(r: &Row) -> Cell
-    ensures { fit_row r.now ≡ true → Tells result r.now }
-{
-    let w = words_of(r.bytes);
-    Cell {
-        owner: r.owner as u64,
-        kind: if r.shared {
-            r.len as u64 + SHARED
-        } else {
-            r.len as u64
-        },
-        low: w.low,
-        high: w.high,
-    }
-}
-
 // Each row in its cell.
 fn put_rows(rows: &[Row], t: &mut Cells)
     requires { (length rows.now ≤ ROWS) × (all fit_row rows.now ≡ true) × (t.old ≡ replicate WORDS 0) }
     ensures { Rows t.new rows.now }
 {
     for (i, r) in rows.iter().enumerate() {
-        append(t, i, cell_of(r));
+        append(t, i, Cell::from(*r));
     }
 }
 

@@ -106,29 +106,6 @@ fn processes_in(m: &Numbers) -> [Process; 16]
     procs
 }
 
-// The bytes of both, of each the lowest first.
-fn sixteen_bytes(low: u64, high: u64) -> [u8; 16]
-    ensures { result ≡ digits 8 low ++ digits 8 high }
-{
-    let mut bytes = [0; 16];
-    bytes[..8].copy_from_slice(&low.to_le_bytes());
-    bytes[8..].copy_from_slice(&high.to_le_bytes());
-    bytes
-}
-
-fn row_at(t: &Cells, i: usize) -> Row
-    requires { (i < CELLS) × (get_or t.now (i * CELL + OWNER) 0 < 65536) }
-    ensures { result ≡ row_at t.now i }
-{
-    let c = cell_at(t, i);
-    Row {
-        owner: c.owner as u16,
-        shared: SHARED <= c.kind,
-        len: (c.kind % SHARED) as u8,
-        bytes: sixteen_bytes(c.low, c.high),
-    }
-}
-
 const NO_ROW: Row = Row {
     owner: 0,
     shared: false,
@@ -142,7 +119,7 @@ fn rows_in(t: &Cells, used: usize) -> [Row; 32]
 {
     let mut rows = [NO_ROW; 32];
     for i in 0..used {
-        rows[i] = row_at(t, i);
+        rows[i] = Row::from(cell_at(t, i));
     }
     rows
 }

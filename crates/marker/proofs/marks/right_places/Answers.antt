@@ -33,28 +33,20 @@ turn : (p sheet : List ℕ) (n i : ℕ) {m t out after rows : List ℕ} {e : Eve
     ≡ cond b 1 0 + right_places (left (state_in after rows) p n (i + 1)) (sixteens_from sheet (6 + 16 * (i + 1)) (n - (i + 1)))
 turn p sheet n i l e u h = rw (left-played p n i l e u, sheet-one sheet n i l, h)
 
-pub begin-requires : goal.begin-requires
-begin-requires c = refl
-
 pub loop-i-init : goal.loop-i-init
 loop-i-init c =
     let a = c.args in
     let z : a.n - 0 ≡ a.n = omega arith in
-    (search rules, search rules, c.begin.ensures.0, rw (zero-add, z) (ap (λ s. right_places (map answer_bytes (answers_from s (events_from a.p.now 12 a.n))) (sixteens_from a.sheet.now 6 a.n)) (sym c.begin.ensures.1)))
-
-pub turn-requires : goal.turn-requires
-turn-requires c = (c.loop-i.invariant.2, refl)
+    (omega arith, rw (zero-add, z) (ap (λ s. right_places (map answer_bytes (answers_from s (events_from a.p.now 12 a.n))) (sixteens_from a.sheet.now 6 a.n)) (sym c.fresh-system.ensures)))
 
 pub stands_at-requires : goal.stands_at-requires
-stands_at-requires c = ap length c.turn.ensures.answer
+stands_at-requires c = ap length c.turn-answer.ensures.answer
 
 pub loop-i-preserved : goal.loop-i-preserved
 loop-i-preserved c =
     let l = c.loop-i in
-    let e = l.invariant.3 ∙ ap (λ x. l.right + x) (turn c.args.p.now c.args.sheet.now c.args.n l.i c.loop-i-test.true c.event.ensures c.turn.ensures c.stands_at.ensures) in (
-      search rules,
+    let e = l.invariant.1 ∙ ap (λ x. l.right + x) (turn c.args.p.now c.args.sheet.now c.args.n l.i c.loop-i-test.true c.event.ensures c.turn-answer.ensures c.stands_at.ensures) in (
       elim c.if-stands_at.branch [ then-stands_at w ↦ omega arith | else-stands_at w ↦ omega arith ],
-      c.turn.ensures.holds,
       elim c.if-stands_at.branch [ then-stands_at w ↦ let t = rw w.if-stands_at.true at e in omega arith | else-stands_at w ↦ let t = rw w.if-stands_at.false at e in omega arith ],
     )
 
@@ -64,4 +56,4 @@ returns c =
     let n = c.args.n in
     let e : n - l.i ≡ 0 = omega arith in
     let z : n - 0 ≡ n = omega arith in
-    sym (rw z at l.invariant.3 ∙ rw (e, add-zero))
+    sym (rw z at l.invariant.1 ∙ rw (e, add-zero))

@@ -21,7 +21,7 @@ loop-i-preserved c =
     let i = c.loop-i.i in
     let l = c.loop-i-test.true in
     rw (take_more rows i blank l refl)
-    (c.append.ensures _ _ c.loop-i.invariant (length-take-le i rows (omega arith)) (c.cell_of.ensures (all-at fit_row rows blank i l c.requires.1)))
+    (c.append.ensures _ _ c.loop-i.invariant (length-take-le i rows (omega arith)) (c.from.ensures (all-at fit_row rows blank i l c.requires.1)))
 
 pub returns : goal.returns
 returns c = rw (take_all c.loop-i.i c.args.rows.now c.loop-i-test.false) at c.loop-i.invariant
