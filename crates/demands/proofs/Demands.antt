@@ -40,6 +40,10 @@ use Rattle.model.proofs.step.Met as step-code
 use Rattle.turns.proofs.begin.Met as begin-code
 use Rattle.turns.proofs.turn.Met as turn-code
 use Rattle.model.proofs.answer_in.Met as answer-in-code
+use Rattle.model.proofs.system.System.fresh.Met as system-fresh-code
+use Rattle.model.proofs.system.System.of.Met as system-of-code
+use Rattle.model.proofs.system.System.turn.Met as system-turn-code
+use Rattle.model.proofs.system.System.state.Met as system-state-code
 use Rattle.marker.proofs.key.Met as key-code
 use Rattle.marker.proofs.mark.Met as mark_code
 use Rattle.marker.proofs.perfect.Met as perfect-code
@@ -60,6 +64,10 @@ code =
       begin = begin-code.met;
       turn = turn-code.met;
       answer-in = answer-in-code.met;
+      system-fresh = system-fresh-code.met;
+      system-of = system-of-code.met;
+      system-turn = system-turn-code.met;
+      system-state = system-state-code.met;
       key = key-code.met;
       mark = mark_code.met;
       perfect = perfect-code.met;
@@ -98,7 +106,7 @@ record Held (m t : List ℕ) (es : List Event) (given : List (List ℕ)) : Type 
 
 held : {m : List ℕ} → BeginGives m → {es : List Event} {given : List (List ℕ)} {after rows : List ℕ} → Turns m (replicate WORDS 0) es given after rows → Held after rows es given
 held b begun = record { holds = b.0; answers = refl; state = b.1 }
-held b (turned {es = es} {given = given} c out e answer after rows g) =
+held b (turned {es = es} {given = given} c e answer after rows g) =
     let k = held b c in
     record {
       holds = g.holds;
@@ -222,7 +230,7 @@ demand-2 =
       steps = λ s f es given t c. by-the-rules StepGives (λ u e r g. g) f c;
       begins = refl;
       turns = λ m b es given after rows c. let k = held b c in (k.answers, k.state);
-      may = λ m b es given after rows c out n e. ((held b c).holds, n);
+      may = λ m b es given after rows c e. (held b c).holds;
       every = every;
       written = λ p buffer n e h r after g. ap (λ (x : Keyed × List ℕ). x.0) g ∙ keyed-is p buffer n e h;
       sheet = sheet-is;

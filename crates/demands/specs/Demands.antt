@@ -11,6 +11,7 @@ use Rattle.rules.specs.declared.state.Answer.{Answer}
 use Rattle.rules.specs.declared.state.Stepped.{Stepped}
 use Rattle.locks.specs.Cells.{WORDS}
 use Rattle.places.specs.Places.{NUMBERS}
+use Rattle.places.specs.declared.arrays.Arrays.{Arrays}
 use Rattle.turns.specs.Turn.{state_in}
 use Rattle.papers.specs.Layout.{event_count}
 use Rattle.papers.specs.Fields.{paper_of, sheet_of}
@@ -30,6 +31,10 @@ use Rattle.turns.proofs.begin.Reads as begin-promise
 use Rattle.turns.proofs.turn.Statement as turn-theorem
 use Rattle.turns.proofs.turn.Reads as turn-promise
 use Rattle.model.proofs.answer_in.Statement as answer-in-theorem
+use Rattle.model.proofs.system.System.fresh.Statement as system-fresh-theorem
+use Rattle.model.proofs.system.System.of.Statement as system-of-theorem
+use Rattle.model.proofs.system.System.turn.Statement as system-turn-theorem
+use Rattle.model.proofs.system.System.state.Statement as system-state-theorem
 use Rattle.marker.proofs.key.Statement as key-theorem
 use Rattle.marker.proofs.key.Reads as key-promise
 use Rattle.marker.proofs.mark.Statement as mark-theorem
@@ -52,6 +57,10 @@ pub record Code (M : Type 1) : Type 2 where
   pub begin : begin-theorem.statement M
   pub turn : turn-theorem.statement M
   pub answer-in : answer-in-theorem.statement M
+  pub system-fresh : system-fresh-theorem.statement M
+  pub system-of : system-of-theorem.statement M
+  pub system-turn : system-turn-theorem.statement M
+  pub system-state : system-state-theorem.statement M
   pub key : key-theorem.statement M
   pub mark : mark-theorem.statement M
   pub perfect : perfect-theorem.statement M
@@ -77,8 +86,12 @@ StepGives s e r = step-promise.Post tt (s, (e, tt)) r (s, (e, tt))
 abbrev lent : List ℕ → Bor (List ℕ)
 lent x = record { ref_ptr = (0, 0); now = x }
 
-abbrev changed : List ℕ → MutBor (List ℕ)
+abbrev changed : {A : Type 0} → A → MutBor A
 changed x = record { ref_ptr = (0, 0); ghost_name = 0; now = x }
+
+-- the two arrays as one value
+abbrev arrays : List ℕ → List ℕ → Arrays
+arrays m t = record { numbers = m; cells = t }
 
 -- `begin` asks for this of an array of zeros, and gives m
 abbrev pub BeginAsks : Type 0
@@ -87,13 +100,12 @@ BeginAsks = begin-promise.Pre (replicate NUMBERS 0, tt) (changed (replicate NUMB
 abbrev pub BeginGives : List ℕ → Type 0
 BeginGives m = begin-promise.Post (replicate NUMBERS 0, tt) (changed (replicate NUMBERS 0), tt) tt (changed m, tt)
 
--- `turn` asks for this of the answer's array, the arrays m and t and the event e, and gives the answer and the arrays after it
-abbrev pub TurnAsks : List ℕ → List ℕ → List ℕ → Event → Type 0
-TurnAsks out m t e = turn-promise.Pre (out, (m, (t, tt))) (changed out, (changed m, (changed t, (e, tt))))
+-- `turn` asks for this of the arrays m and t and the event e, and gives the answer and the arrays after it
+abbrev pub TurnAsks : List ℕ → List ℕ → Event → Type 0
+TurnAsks m t e = turn-promise.Pre (arrays m t, tt) (changed (arrays m t), (e, tt))
 
-abbrev pub TurnGives : List ℕ → List ℕ → List ℕ → Event → List ℕ → List ℕ → List ℕ → Type 0
-TurnGives out m t e answer after rows =
-    turn-promise.Post (out, (m, (t, tt))) (changed out, (changed m, (changed t, (e, tt)))) tt (changed answer, (changed after, (changed rows, (e, tt))))
+abbrev pub TurnGives : List ℕ → List ℕ → Event → List ℕ → List ℕ → List ℕ → Type 0
+TurnGives m t e answer after rows = turn-promise.Post (arrays m t, tt) (changed (arrays m t), (e, tt)) answer (changed (arrays after rows), (e, tt))
 
 -- `key` asks for this of the paper p and the buffer, and gives r, with `after` in the buffer then
 abbrev pub KeyAsks : List ℕ → List ℕ → Type 0
@@ -142,8 +154,8 @@ pub data Calls (Gives : State → Event → Stepped → Type 0) (s : State) : Li
 -- turns one after the other, each on the arrays that the last one left: the events, the answers given, the arrays then
 pub data Turns (m t : List ℕ) : List Event → List (List ℕ) → List ℕ → List ℕ → Type 0 where
   begun : Turns m t [] [] m t
-  turned : {es : List Event} {given : List (List ℕ)} {u v : List ℕ} → Turns m t es given u v → (out : List ℕ) (e : Event) (answer after rows : List ℕ)
-      → TurnGives out u v e answer after rows → Turns m t (es ++ e ∷ []) (given ++ answer ∷ []) after rows
+  turned : {es : List Event} {given : List (List ℕ)} {u v : List ℕ} → Turns m t es given u v → (e : Event) (answer after rows : List ℕ)
+      → TurnGives u v e answer after rows → Turns m t (es ++ e ∷ []) (given ++ answer ∷ []) after rows
 
 -- the answers, and the state, of the rules
 pub record ByTheRules (es : List Event) (given : List Answer) (s : State) : Type 0 where
@@ -159,7 +171,7 @@ pub record Demand2 : Type 0 where
       → (given ≡ map four_of (answers_from (laid fresh) es)) × (state_in after rows ≡ state_from (laid fresh) es)
   -- `turn` may be called at each of them
   pub may : (m : List ℕ) → BeginGives m → (es : List Event) (given : List (List ℕ)) (after rows : List ℕ) → Turns m (replicate WORDS 0) es given after rows
-      → (out : List ℕ) → length out ≡ 4 → (e : Event) → TurnAsks out after rows e
+      → (e : Event) → TurnAsks after rows e
   -- the answers of the rules, at every event: the one to that event in the state that those before it left
   pub every : (s : State) (before : List Event) (e : Event) (rest : List Event)
       → answers_from s (before ++ e ∷ rest) ≡ answers_from s before ++ (step_of (state_from s before) e).answer ∷ answers_from (state_from s (before ++ e ∷ [])) rest
