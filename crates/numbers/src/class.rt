@@ -4,6 +4,7 @@ ghost use Rattle.rules.specs.Calls.{class_of};
 
 use rules::calls::*;
 
+#[tactic(auto, unfolding(rules::specs::Calls::class_of, rules::specs::Calls::class_among, rules::specs::Calls::modelled, rules::specs::Calls::listed))]
 pub fn class_of(n: u16) -> Class
     ensures { result ≡ class_of n }
 {
