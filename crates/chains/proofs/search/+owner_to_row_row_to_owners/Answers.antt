@@ -43,7 +43,7 @@ owner_to_row-loop-a-preserved t c =
                   tour-on so_far.1 (u.row_to_owners.ensures.grown none) (λ q d. u.row_to_owners.ensures.had none q (pair-to d)) (w.opened-is ∙ u.opened-is)
             ]
         | owner_to_row-else-conflicts-via-else-conflicts w ↦
-            tour-past so_far.1 (λ q d. no-pair c.conflicts.ensures c.cell_at-x.ensures c.cell_at-y.ensures c.pairs-test.true c.loop-a-test.true w.if-conflicts.false d) w.opened-is
+            tour-past so_far.1 (λ q d. no-pair c.conflicts.ensures c.cell_at-x.ensures c.cell_at-y.ensures (omega arith) (omega arith) w.if-conflicts.false d) w.opened-is
       ],
     )
 
@@ -64,9 +64,9 @@ owner_to_row-returns-then-row_to_owners t c =
       back =
           λ _ rows s.
           elim c.if-y-c.branch [
-            | owner_to_row-then-y-c u ↦ one (pair c.conflicts.ensures c.cell_at-x.ensures c.cell_at-y.ensures c.pairs-test.true c.loop-a-test.true c.if-conflicts.true from
+            | owner_to_row-then-y-c u ↦ one (pair c.conflicts.ensures c.cell_at-x.ensures c.cell_at-y.ensures (omega arith) (omega arith) c.if-conflicts.true from
                 (sym (same-owner c.cell_at-y.ensures) ∙ u.if-y-c.true ∙ same-owner c.cell_at-c.ensures) rows s)
-            | owner_to_row-else-y-c u ↦ more (pair c.conflicts.ensures c.cell_at-x.ensures c.cell_at-y.ensures c.pairs-test.true c.loop-a-test.true c.if-conflicts.true from refl rows s)
+            | owner_to_row-else-y-c u ↦ more (pair c.conflicts.ensures c.cell_at-x.ensures c.cell_at-y.ensures (omega arith) (omega arith) c.if-conflicts.true from refl rows s)
                 (u.row_to_owners.ensures.back (sym u.value-is ∙ c.if-row_to_owners.true) rows s)
           ];
       grown = λ e. absurd (true≢false e);
