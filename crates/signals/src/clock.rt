@@ -9,7 +9,7 @@ ghost use Rattle.rules.specs.declared.state.Process.{Process};
 ghost use Rattle.places.specs.Places.{place_of, wakes_by};
 ghost use Rattle.places.specs.Places.{PLACES, LIVE, USED, NEXT, Procs, Housed, Turns, procs_in};
 ghost use Rattle.locking.specs.Granted.{Sweeps};
-ghost use Rattle.places.specs.Settled.{Settled, Show, Whole, asker, shown};
+ghost use Rattle.places.specs.Settled.{Settles, Show, Whole, asker, shown};
 ghost use Rattle.signals.specs.Noted.{Noted};
 
 use crate::masks::*;
@@ -72,7 +72,7 @@ fn alarm_due(m: &Numbers) -> bool
     (0..m[LIVE] as usize).any(|i| of(m, i, ALARM) == 1)
 }
 
-// All timed sleepers lose a second.
+// All timed sleepers lose a second. Kept apart from `second`, which lowers the alarms and tells who wakes in the same loop.
 fn pass_second(m: &mut Numbers)
     requires { Housed m.old }
     ensures { Procs m.new (map slept (procs_in m.old)) (get_or m.old USED 0) (get_or m.old NEXT 0) }
@@ -108,7 +108,7 @@ fn ring_all(arrays: &mut Arrays, before: &Before)
 
 fn loud_second(arrays: &mut Arrays) -> Reply
     requires { Whole arrays.old }
-    ensures { Settled (shown arrays.old) (answered done 0 0 (ticked (shown arrays.old))) result arrays.new.numbers arrays.new.cells }
+    ensures { Settles (shown arrays.old) (answered done 0 0 (ticked (shown arrays.old))) (Ok result) arrays.new }
 {
     let before = Before::note(&arrays.numbers);
     pass_second(&mut arrays.numbers);
@@ -118,7 +118,7 @@ fn loud_second(arrays: &mut Arrays) -> Reply
 
 pub fn tick(arrays: &mut Arrays) -> Reply
     requires { Whole arrays.old × (sound_machine (shown arrays.old) ≡ true) }
-    ensures { Settled (shown arrays.old) (answered done 0 0 (ticked (shown arrays.old))) result arrays.new.numbers arrays.new.cells }
+    ensures { Settles (shown arrays.old) (answered done 0 0 (ticked (shown arrays.old))) (Ok result) arrays.new }
 {
     if alarm_due(&arrays.numbers) {
         return loud_second(arrays);

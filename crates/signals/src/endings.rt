@@ -21,6 +21,7 @@ fn move_up(m: &mut Numbers, pid: u32) -> usize
     requires { Housed m.old }
     ensures { Moved pid m.old m.new result }
 {
+    // Where the next one that stays goes: behind i as soon as one has gone.
     let mut k = 0;
     for i in 0..m[LIVE] as usize {
         if of(m, i, PID) != pid {

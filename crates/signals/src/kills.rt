@@ -6,7 +6,7 @@ ghost use Rattle.rules.specs.Calls.{do_exit, send_kill, outlived};
 ghost use Rattle.rules.specs.declared.state.Event.{Event};
 ghost use Rattle.places.specs.Places.{place_of};
 ghost use Rattle.places.specs.Places.{LIVE};
-ghost use Rattle.places.specs.Settled.{Asking, Settled, Settles, asker, shown};
+ghost use Rattle.places.specs.Settled.{Asking, Settles, asker, shown};
 
 use crate::endings::*;
 use crate::masks::*;
@@ -32,7 +32,7 @@ pub fn exit(arrays: &mut Arrays, i: usize) -> Result<Reply, Refusal>
 // The signal comes to the process at place j; caller ended, or done where it lives on.
 fn send(arrays: &mut Arrays, i: usize, j: usize, signal: Signal) -> Reply
     requires { Asking arrays.old i × (j < get_or arrays.old.numbers LIVE 0) × (j ≡ place_of (asker arrays.old j).pid (pids (shown arrays.old).procs)) }
-    ensures { Settled (shown arrays.old) (outlived (asker arrays.old i).pid (arrives signal.number (asker arrays.old j).pid (shown arrays.old))) result arrays.new.numbers arrays.new.cells }
+    ensures { Settles (shown arrays.old) (outlived (asker arrays.old i).pid (arrives signal.number (asker arrays.old j).pid (shown arrays.old))) (Ok result) arrays.new }
 {
     let pid = of(&arrays.numbers, i, PID);
     let before = Before::note(&arrays.numbers);

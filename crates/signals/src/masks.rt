@@ -5,10 +5,9 @@ ghost use Rattle.places.specs.Places.{PLACES};
 use places::answers::*;
 use places::fields::*;
 use rules::outcome::AnswerKind;
-use std::array;
 
 // A process, as noted before an event.
-#[derive(Clone, Copy, Debug)]
+#[derive(Clone, Copy, Debug, Default)]
 pub(crate) struct Note {
     pub(crate) pid: u32,
     sleep: u32,
@@ -48,13 +47,15 @@ impl Before {
         requires { Housed m.now }
         ensures { Noted (procs_in m.now) result }
     {
-        Before {
-            notes: array::from_fn(|i| Note {
+        let live = m[LIVE] as usize;
+        let mut notes = [Note::default(); PLACES];
+        for i in 0..live {
+            notes[i] = Note {
                 pid: of(m, i, PID),
                 sleep: of(m, i, SLEEP),
-            }),
-            live: m[LIVE] as usize,
+            };
         }
+        Before { notes, live }
     }
 
     pub(crate) fn notes(&self) -> &[Note]
@@ -63,7 +64,7 @@ impl Before {
         &self.notes[..self.live]
     }
 
-    // Mask bit i is the process that was at place i.
+    // Who woke and who ended since: mask bit i is the process that was at place i.
     pub(crate) fn settle(&self, m: &Numbers, kind: AnswerKind) -> Reply
         requires { Housed m.now }
         ensures { (s u : Machine) (t : List ℕ) → Noted s.procs self.now → Lays m.now t u → result ≡ four_of (masked (kind_number kind) (woken_mask s u) (ended_mask s u)) }

@@ -11,6 +11,7 @@ use locks::rows::Part;
 use places::arrays::Arrays;
 use places::fields::*;
 
+// A signal by its number, 1 to 7.
 #[derive(Clone, Copy, Debug)]
 pub(crate) struct Signal {
     pub(crate) number: usize,

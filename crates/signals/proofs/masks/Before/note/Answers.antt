@@ -1,9 +1,12 @@
-use lib.ListN.{get_or}
 use mathlib.Core.Path.{refl}
-use borrow.Author.Rules.{rules}
-use Rattle.places.specs.Places.{LIVE}
-use Rattle.signals.proofs.Noting.{noted}
+use Rattle.signals.proofs.Noting.{note-more, noted, noting}
 use Rattle.signals.proofs.masks.Before.note.Goals as goal
 
+pub loop-i-init : goal.loop-i-init
+loop-i-init c = noting _ _ refl
+
+pub loop-i-preserved : goal.loop-i-preserved
+loop-i-preserved c = note-more c.requires c.loop-i.invariant c.loop-i-test.true c.of.ensures c.of-in-loop-i.ensures
+
 pub returns : goal.returns
-returns c = noted c.requires _ {b = record { notes = c.from_fn.result; live = get_or c.args.m.now LIVE 0; fits = _ }} c.from_fn.ensures.items (λ i y q k. search rules) refl
+returns c = noted c.requires c.loop-i.invariant c.loop-i-test.false refl refl
