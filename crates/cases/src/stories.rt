@@ -1,21 +1,17 @@
 // Plays stories. Each line is written again, an event with what it was answered: a line that begins with a digit is an event, = is the fresh
 // state, ! changes the state by hand, ? looks at it, and anything else is a comment.
-ghost use Rattle.turns.specs.Turn.{Holds};
-
 use crate::hand::{peek, poke};
 use crate::reading::event;
-use model::{NUMBERS, WORDS, answer_in, begin, fresh, step, turn};
+use model::{System, answer_in, fresh, step};
 use rules::state::{Answer, Event, State};
 use std::{fmt, io};
 
-// A story as far as it is played: its state, for `step`, and the same in arrays, for `turn`, until it is changed by hand.
+// A story as far as it is played: its state, for `step`, and the system, for `turn`, which is in the same state until that is changed by hand.
 #[derive(Drop)]
 struct Story {
     state: State,
-    numbers: [u32; NUMBERS],
-    cells: [u64; WORDS],
+    system: System,
     by_hand: bool,
-    ghost sound: { Holds numbers cells },
 }
 
 // An answer as a story tells it: its outcome, and what is not 0.
@@ -53,24 +49,20 @@ fn outcome(kind: u8) -> &'static str {
 }
 
 fn begun() -> Story {
-    let mut numbers = [0u32; NUMBERS];
-    begin(&mut numbers);
     Story {
         state: fresh(),
-        numbers,
-        cells: [0u64; WORDS],
+        system: System::fresh(),
         by_hand: false,
     }
 }
 
 // What `step` answers; it should be what `turn` does too, where the story has not changed the state by hand.
 fn play_event(rt: &impl Print, story: &mut Story, e: Event) -> io::Result<()> {
-    let mut out = [0u32; 4];
-    turn(&mut out, &mut story.numbers, &mut story.cells, e);
+    let turned = answer_in(&story.system.turn(e));
     let stepped = step(story.state, e);
     story.state = stepped.state;
     print!(rt; "{}", Told(stepped.answer))?;
-    if !story.by_hand && stepped.answer != answer_in(&out) {
+    if !story.by_hand && stepped.answer != turned {
         print!(rt; " and turn differs")?;
     }
     Ok(())
