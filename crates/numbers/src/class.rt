@@ -1,4 +1,4 @@
-// The three classes of call numbers.
+// The three classes of call numbers. (a) No `From<u16>`: the function's name stays, and `Class` stands in `rules`, which has no code.
 ghost use Rattle.std.specs.Prelude.{◌≡◌};
 ghost use Rattle.rules.specs.Calls.{class_of};
 

@@ -21,7 +21,7 @@ pub(crate) fn zero_row(r: &Row) -> bool
     *r == NO_ROW
 }
 
-// `ns` are the PIDs of the live.
+// `ns` are the PIDs of the live, as below.
 #[tactic(auto, using(crate::proofs::Lists::all_same), unfolding(locks::specs::Rows::sound_row))]
 fn sound_row(r: &Row, ns: &[u16]) -> bool
     ensures { result ≡ sound_row ns.now r.now }
