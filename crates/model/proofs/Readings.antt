@@ -78,12 +78,12 @@ module _ (m : List ℕ) (i : ℕ) where
   process-here l = sym (parted-get process_in PLACE (get_or m LIVE 0) m i no_process l ∙ process-is)
 
 module _ (t : List ℕ) (i : ℕ) where
-  four : (k : ℕ) → get_or (drop (i * CELL) t) k 0 ≡ get_or t (i * CELL + k) 0
-  four k = get_or-drop (i * CELL) t k 0
+  number : (k : ℕ) → get_or (drop (i * CELL) t) k 0 ≡ get_or t (i * CELL + k) 0
+  number k = get_or-drop (i * CELL) t k 0
 
   row_is : row_in (drop (i * CELL) t) ≡ row_at t i
   unfolding row_in
-  row_is = rw (four OWNER, four KIND, four LOW, four HIGH)
+  row_is = rw (number OWNER, number KIND, number LOW, number HIGH)
 
   -- a cell is read as its row
   pub cell-row : row_in (four (cell_at t i)) ≡ row_at t i

@@ -6,7 +6,6 @@ ghost use Rattle.soundness.specs.Waiting.{AreFound, count_of};
 
 use locks::cells::*;
 use locks::rows::*;
-use locks::words::*;
 
 const NO_ROW: Row = Row {
     owner: 0,
@@ -38,14 +37,7 @@ fn cell_of(r: &Row, ns: &[u16]) -> Option<Cell>
     if !sound_row(r, ns) {
         return None;
     }
-    let w = words_of(r.bytes);
-    let len = u64::from(r.len);
-    Some(Cell {
-        owner: u64::from(r.owner),
-        kind: if r.shared { len + SHARED } else { len },
-        low: w.low,
-        high: w.high,
-    })
+    Some(Cell::from(*r))
 }
 
 // At the places of the rows that wait, their owners. None: a row is not sound, or has a twin.
