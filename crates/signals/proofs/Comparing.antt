@@ -17,8 +17,8 @@ use Rattle.rules.specs.Step.{woken_mask, ended_mask}
 use Rattle.rules.specs.declared.state.Process.{Process}
 use Rattle.places.specs.Places.{place_of, Housed, LIVE, Lays, PLACE, SLEEP, numbers, procs_in}
 use Rattle.locking.proofs.Marking.{Marked, marked, mark}
-use Rattle.signals.specs.Noted.{Noted, no_note, up_at}
-use Rattle.signals.specs.declared.masks.Note.{Note}
+use Rattle.signals.specs.Noted.{Noted, no_past, up_at}
+use Rattle.signals.specs.declared.masks.Past.{Past}
 use Rattle.signals.specs.declared.masks.Before.{Before}
 use Rattle.rules.specs.Reply.{four_of}
 use Rattle.places.specs.Settled.{masked}
@@ -57,16 +57,16 @@ more-few true h e = omega arith
 more-few false h e = omega arith
 
 module _ {m : List ℕ} {before : Before} {w e bit i : ℕ} (c : Comparing m before w e bit i) where
-  module _ {note : Note} (l : i < before.live) (q : note ≡ get_or before.notes i no_note) {k : ℕ} (fits : k ≤ get_or m LIVE 0) (place : k ≡ place_of note.pid (pids (procs_in m))) where
+  module _ {past : Past} (l : i < before.live) (q : past ≡ get_or before.processes i no_past) {k : ℕ} (fits : k ≤ get_or m LIVE 0) (place : k ≡ place_of past.pid (pids (procs_in m))) where
     module _ (s u : Machine) (t : List ℕ) (n : Noted s.procs before) (y : Lays m t u) where
       in_list : i < length s.procs
       in_list = omega (arith, n.live)
 
-      noted-pid : note.pid ≡ (get_or s.procs i no_process).pid
-      noted-pid = ap (λ (z : Note). z.pid) q ∙ n.pid i in_list
+      noted-pid : past.pid ≡ (get_or s.procs i no_process).pid
+      noted-pid = ap (λ (z : Past). z.pid) q ∙ n.pid i in_list
 
-      noted-sleep : note.sleep ≡ (get_or s.procs i no_process).rest.sleep
-      noted-sleep = ap (λ (z : Note). z.sleep) q ∙ n.sleep i in_list
+      noted-sleep : past.sleep ≡ (get_or s.procs i no_process).rest.sleep
+      noted-sleep = ap (λ (z : Past). z.sleep) q ∙ n.sleep i in_list
 
       at : k ≡ place_of (get_or s.procs i no_process).pid (pids u.procs)
       at = place ∙ ap (λ (j : ℕ). place_of j (pids (procs_in m))) noted-pid ∙ ap (λ (ps : List Process). place_of (get_or s.procs i no_process).pid (pids ps)) (procs-back y.procs)
@@ -75,14 +75,14 @@ module _ {m : List ℕ} {before : Before} {w e bit i : ℕ} (c : Comparing m bef
       compare-gone f =
           f ∙ ap (eqb k) (procs-live y.procs) ∙ found-ended u (get_or s.procs i no_process).pid at (rw (procs-live y.procs) at fits)
 
-      compare-woke : {a : Bool} → a ≡ up_at (procs_in m) k note.sleep → a ≡ woke u (get_or s.procs i no_process)
+      compare-woke : {a : Bool} → a ≡ up_at (procs_in m) k past.sleep → a ≡ woke u (get_or s.procs i no_process)
       compare-woke f =
           let p = get_or s.procs i no_process in
-          f ∙ ap (λ (ps : List Process). up_at ps k note.sleep) (procs-back y.procs) ∙ ap (λ (x : ℕ). up_at u.procs k x) noted-sleep
+          f ∙ ap (λ (ps : List Process). up_at ps k past.sleep) (procs-back y.procs) ∙ ap (λ (x : ℕ). up_at u.procs k x) noted-sleep
           ∙ ap (λ (x : Bool). sleeps p && x && not (sleeps (get_or u.procs k no_process))) (found-lives u p.pid at)
           ∙ ap (λ (q : Process). sleeps p && lives u p.pid && not (sleeps q)) (found-process u p.pid at)
 
-    pub compare : {v d : ℕ} {a b : Bool} → v ≡ w + cond a bit 0 → d ≡ e + cond b bit 0 → a ≡ up_at (procs_in m) k note.sleep → b ≡ eqb k (get_or m LIVE 0) → Comparing m before v d (bit * 2) (i + 1)
+    pub compare : {v d : ℕ} {a b : Bool} → v ≡ w + cond a bit 0 → d ≡ e + cond b bit 0 → a ≡ up_at (procs_in m) k past.sleep → b ≡ eqb k (get_or m LIVE 0) → Comparing m before v d (bit * 2) (i + 1)
     compare {v} {d} {a} {b} f g ha hb =
         let o : bit * 2 ≡ 2 ^ (i + 1) = rw (c.bits, add-one i, pow-succ' 2 i) (omega arith) in
         let q : i + 1 ≤ 16 = omega (arith, before.fits) in
@@ -107,14 +107,14 @@ module _ {m : List ℕ} {before : Before} {w e bit i : ℕ} (c : Comparing m bef
       let g : e ≡ ended_mask s u = z.1.is ∙ ap (mask (gone u)) (take_all i s.procs b) in
       o ∙ (λ j. four_of (masked kind (f j) (g j)))
 
--- ---- what the code reads of the notes
+-- ---- what the code reads of those before
 
-module _ (before : Before) {xs : List Note} (e : xs ≡ take before.live before.notes) where
-  pub notes-live : length before.notes ≡ 16 → length xs ≡ before.live
-  notes-live h = ap length e ∙ length-take-le before.live before.notes (let f = before.fits in omega arith)
+module _ (before : Before) {xs : List Past} (e : xs ≡ take before.live before.processes) where
+  pub before-live : length before.processes ≡ 16 → length xs ≡ before.live
+  before-live h = ap length e ∙ length-take-le before.live before.processes (let f = before.fits in omega arith)
 
-  pub notes-get : {i : ℕ} → i < before.live → get_or xs i no_note ≡ get_or before.notes i no_note
-  notes-get {i} l = ap (λ (ys : List Note). get_or ys i no_note) e ∙ get_or-take before.live before.notes i no_note l
+  pub before-get : {i : ℕ} → i < before.live → get_or xs i no_past ≡ get_or before.processes i no_past
+  before-get {i} l = ap (λ (ys : List Past). get_or ys i no_past) e ∙ get_or-take before.live before.processes i no_past l
 
 -- ---- whether the process at place k is up
 

@@ -121,7 +121,7 @@ cleared {m} {zs} {z} {ys} p k n l b e =
     let w : n * PLACE - k * PLACE ≡ (n - k) * PLACE = omega arith in
     let first : take (k * PLACE) m ≡ joined numbers (take k ys) = rw p.is (joined-take numbers PLACE wide ys z k (omega (arith, p.long))) in
     let last : drop (n * PLACE) m ≡ joined numbers (drop n ys) ++ z = rw p.is (joined-drop numbers PLACE wide ys z n (omega (arith, p.long))) in
-    let middle : zs ≡ joined numbers gap = e ∙ ap (λ (x : ℕ). replicate x 0) w ∙ zeros (n - k) in
+    let middle : zs ≡ joined numbers gap = rw (e, w) (zeros (n - k)) in
     rw (drop-drop, o, first, last, middle, joined-append numbers PLACE wide (take k ys) (gap ++ drop n ys), joined-append numbers PLACE wide gap (drop n ys), append_assoc (joined numbers (take k ys)) (joined numbers gap ++ joined numbers (drop n ys)) z, append_assoc (joined numbers gap) (joined numbers (drop n ys)) z)
 
 -- a process has gone

@@ -16,8 +16,8 @@ use Rattle.rules.specs.declared.state.Process.{Process}
 use Rattle.rules.proofs.Frame.{pids-put}
 use Rattle.places.specs.Places.{place_of}
 use Rattle.places.proofs.Located.{put-length}
-use Rattle.signals.specs.Noted.{Noted, no_note}
-use Rattle.signals.specs.declared.masks.Note.{Note}
+use Rattle.signals.specs.Noted.{Noted, no_past}
+use Rattle.signals.specs.declared.masks.Past.{Past}
 use Rattle.signals.specs.declared.masks.Before.{Before}
 use Rattle.places.specs.Places.{ALARM, Housed, LIVE, Laid, Lays, NEXT, PLACE, Procs, Turns, USED, caller, machine, numbers, procs_in}
 use Rattle.signals.proofs.Found.{found_at, found_first, found-process}
@@ -123,9 +123,9 @@ unfolding alarms
 ringing before l = record { inside = omega arith; house = l; lays = λ ps n. l.lays }
 
 module _ {s : Machine} {before : Before} {m t : List ℕ} {i : ℕ} (g : Ringing s before m t i) where
-  module _ {note : Note} (l : i < before.live) (o : note ≡ get_or before.notes i no_note) {k : ℕ} (e : k ≡ place_of note.pid (pids (procs_in m))) where
-    at : k ≡ place_of note.pid (pids (machine m t).procs)
-    at = found_at note.pid g.house.lays e
+  module _ {past : Past} (l : i < before.live) (o : past ≡ get_or before.processes i no_past) {k : ℕ} (e : k ≡ place_of past.pid (pids (procs_in m))) where
+    at : k ≡ place_of past.pid (pids (machine m t).procs)
+    at = found_at past.pid g.house.lays e
 
     -- what comes of the next
     pub rang : {u v : List ℕ} → Lays u v (rings (caller m t k) (machine m t)) → Ringing s before u v (i + 1)
@@ -137,8 +137,8 @@ module _ {s : Machine} {before : Before} {m t : List ℕ} {i : ℕ} (g : Ringing
               let y = g.lays ps n in
               let b : i < length ps = omega (arith, n.live) in
               let q : rings (caller m t k) (machine m t) ≡ rings (process_of (alarms (pids (take i ps)) s) (get_or ps i no_process).pid) (alarms (pids (take i ps)) s) =
-              ap (λ (p : Process). rings p (machine m t)) (found-process (machine m t) note.pid at)
-              ∙ ap (λ (j : ℕ). rings (process_of (machine m t) j) (machine m t)) (ap (λ (z : Note). z.pid) o ∙ n.pid i b)
+              ap (λ (p : Process). rings p (machine m t)) (found-process (machine m t) past.pid at)
+              ∙ ap (λ (j : ℕ). rings (process_of (machine m t) j) (machine m t)) (ap (λ (z : Past). z.pid) o ∙ n.pid i b)
               ∙ ap (λ (z : Machine). rings (process_of z (get_or ps i no_process).pid) z) (lays_back y) in
               rw (add-one i, take-suc ps i no_process b, map-append, alarms-end (pids (take i ps)) (get_or ps i no_process).pid s, ← q) a;
         }
@@ -153,7 +153,7 @@ module _ {s : Machine} {before : Before} {m t : List ℕ} {i : ℕ} (g : Ringing
 
     -- what `ring` asks
     pub rang-first : k < get_or m LIVE 0 → k ≡ place_of (caller m t k).pid (pids (machine m t).procs)
-    rang-first h = found_first (machine m t) note.pid at (let o = procs-live g.house.lays.procs in omega arith)
+    rang-first h = found_first (machine m t) past.pid at (let o = procs-live g.house.lays.procs in omega arith)
 
   pub rang-all : before.live ≤ i → (ps : List Process) → Noted ps before → Lays m t (alarms (pids ps) s)
   rang-all h ps n = let b : length ps ≤ i = omega (arith, n.live) in rw (take_all i ps b) at (g.lays ps n)

@@ -2,17 +2,17 @@
 use Rattle.std.specs.Prelude.{ℕ, ◌<◌, ◌≡◌, Bool, not, ◌&&◌, List, eqb, ltb, length, get_or}
 use Rattle.rules.specs.State.{no_process, sleeps}
 use Rattle.rules.specs.declared.state.Process.{Process}
-use Rattle.signals.specs.declared.masks.Note.{Note}
+use Rattle.signals.specs.declared.masks.Past.{Past}
 use Rattle.signals.specs.declared.masks.Before.{Before}
 
-abbrev pub no_note : Note
-no_note = record { pid = 0; sleep = 0 }
+abbrev pub no_past : Past
+no_past = record { pid = 0; sleep = 0 }
 
 -- PID and sleep of each, by its place
 pub record Noted (ps : List Process) (b : Before) : Type 0 where
   pub live : b.live ≡ length ps
-  pub pid : (i : ℕ) → i < length ps → (get_or b.notes i no_note).pid ≡ (get_or ps i no_process).pid
-  pub sleep : (i : ℕ) → i < length ps → (get_or b.notes i no_note).sleep ≡ (get_or ps i no_process).rest.sleep
+  pub pid : (i : ℕ) → i < length ps → (get_or b.processes i no_past).pid ≡ (get_or ps i no_process).pid
+  pub sleep : (i : ℕ) → i < length ps → (get_or b.processes i no_past).sleep ≡ (get_or ps i no_process).rest.sleep
 
 -- asleep so before the event, and at place k it lives and is awake
 abbrev pub up_at : List Process → ℕ → ℕ → Bool

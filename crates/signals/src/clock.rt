@@ -99,8 +99,8 @@ fn ring_all(arrays: &mut Arrays, before: &Before)
     requires { Whole arrays.old }
     ensures { (ps : List Process) → Noted ps before.now → Show arrays.new (alarms (pids ps) (shown arrays.old)) }
 {
-    for note in before.notes() {
-        if let Some(k) = find(&arrays.numbers, note.pid) {
+    for past in before.processes() {
+        if let Some(k) = find(&arrays.numbers, past.pid) {
             ring(arrays, k);
         }
     }

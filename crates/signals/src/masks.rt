@@ -6,14 +6,14 @@ use places::answers::*;
 use places::fields::*;
 use rules::outcome::AnswerKind;
 
-// A process, as noted before an event.
+// A process, as it was before an event.
 #[derive(Clone, Copy, Debug, Default)]
-pub(crate) struct Note {
+pub(crate) struct Past {
     pub(crate) pid: u32,
     sleep: u32,
 }
 
-impl Note {
+impl Past {
     ghost use Rattle.places.specs.Places.{LIVE, Housed, procs_in};
     ghost use Rattle.signals.specs.Noted.{up_at};
 
@@ -29,7 +29,7 @@ impl Note {
 // The processes before an event, each at its place; `live` of them lived.
 #[derive(Clone, Copy, Debug)]
 pub(crate) struct Before {
-    notes: [Note; PLACES],
+    processes: [Past; PLACES],
     live: usize,
     ghost fits: { live ≤ PLACES },
 }
@@ -48,20 +48,20 @@ impl Before {
         ensures { Noted (procs_in m.now) result }
     {
         let live = m[LIVE] as usize;
-        let mut notes = [Note::default(); PLACES];
+        let mut processes = [Past::default(); PLACES];
         for i in 0..live {
-            notes[i] = Note {
+            processes[i] = Past {
                 pid: of(m, i, PID),
                 sleep: of(m, i, SLEEP),
             };
         }
-        Before { notes, live }
+        Before { processes, live }
     }
 
-    pub(crate) fn notes(&self) -> &[Note]
-        ensures { result.now ≡ take self.now.live self.now.notes }
+    pub(crate) fn processes(&self) -> &[Past]
+        ensures { result.now ≡ take self.now.live self.now.processes }
     {
-        &self.notes[..self.live]
+        &self.processes[..self.live]
     }
 
     // Who woke and who ended since: mask bit i is the process that was at place i.
@@ -72,9 +72,9 @@ impl Before {
         let mut woken: u32 = 0;
         let mut ended: u32 = 0;
         let mut bit: u32 = 1;
-        for note in self.notes() {
-            match find(m, note.pid) {
-                Some(k) if note.is_up(m, k) => woken += bit,
+        for past in self.processes() {
+            match find(m, past.pid) {
+                Some(k) if past.is_up(m, k) => woken += bit,
                 Some(_) => {}
                 None => ended += bit,
             }

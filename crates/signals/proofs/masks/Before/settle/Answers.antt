@@ -2,19 +2,19 @@ use Prim.Native.Nat.{◌<◌}
 use native.Mathlib.Omega.{arith}
 use mathlib.Core.Path.{◌≡◌, refl, sym, ◌∙◌}
 use borrow.Author.Tests.{eq-eqb, ne_eqb}
-use Rattle.signals.proofs.Comparing.{compare, compared, comparing, notes-get, notes-live, up-absent}
+use Rattle.signals.proofs.Comparing.{compare, compared, comparing, before-get, before-live, up-absent}
 use Rattle.signals.proofs.masks.Before.settle.Goals as goal
 use Rattle.signals.proofs.masks.Before.settle.Goals.{in-Some, in-Some+else-is_up, in-None}
 
-pub loop-note-init : goal.loop-note-init
-loop-note-init c = comparing _ _
+pub loop-past-init : goal.loop-past-init
+loop-past-init c = comparing _ _
 
-pub loop-note-preserved : goal.loop-note-preserved
-loop-note-preserved c =
-    let v = c.loop-note.invariant in
-    let n = notes-live c.args.self.now c.notes-note-items.ensures (omega arith) in
-    let l : c.loop-note.note-index < c.args.self.now.live = omega arith in
-    let q = notes-get c.args.self.now c.notes-note-items.ensures l in
+pub loop-past-preserved : goal.loop-past-preserved
+loop-past-preserved c =
+    let v = c.loop-past.invariant in
+    let n = before-live c.args.self.now c.processes-past-items.ensures (omega arith) in
+    let l : c.loop-past.past-index < c.args.self.now.live = omega arith in
+    let q = before-get c.args.self.now c.processes-past-items.ensures l in
     elim c.match-find.branch [
       | in-Some w ↦
           let b = w.in-Some.ensures in
@@ -27,5 +27,5 @@ loop-note-preserved c =
 
 pub returns : goal.returns
 returns c =
-    let n = notes-live c.args.self.now c.notes-note-items.ensures (omega arith) in
-    compared c.loop-note.invariant (omega arith) _ c.with_masks.ensures
+    let n = before-live c.args.self.now c.processes-past-items.ensures (omega arith) in
+    compared c.loop-past.invariant (omega arith) _ c.with_masks.ensures
