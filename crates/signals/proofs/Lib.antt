@@ -3,7 +3,6 @@ pub mod Comparing
 pub mod Elapsing
 pub mod Found
 pub mod Killing
-pub mod Looking
 pub mod Losing
 pub mod Moving
 pub mod Noting

@@ -52,9 +52,7 @@ pub(crate) fn lose_rows(arrays: &mut Arrays, pid: u32, part: Part)
     let used = arrays.numbers[USED] as usize;
     let c = Cell {
         owner: pid as u64,
-        kind: 0,
-        low: 0,
-        high: 0,
+        ..Cell::default()
     };
     let left = take_out(&mut arrays.cells, used, c, part);
     arrays.numbers[USED] = left as u32;
