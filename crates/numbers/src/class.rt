@@ -1,4 +1,4 @@
-// The three classes of call numbers. (a) No `From<u16>`: the function's name stays, and `Class` stands in `rules`, which has no code.
+// The three classes of call numbers. Not `From<u16> for Class`: that would have to stand beside the type, in `rules`.
 ghost use Rattle.std.specs.Prelude.{◌≡◌};
 ghost use Rattle.rules.specs.Calls.{class_of};
 
