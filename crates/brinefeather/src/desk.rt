@@ -23,15 +23,9 @@ fn mark_number(m: Result<Counts, Refusal>) -> u64
     ensures { result ≡ mark_number m }
 {
     match m {
-        Ok(
-            Counts {
-                total,
-                right,
-                missing,
-                surplus,
-            },
-        ) => (((total as u64) * 65536 + (right as u64)) * 65536 + (missing as u64)) * 65536
-            + (surplus as u64),
+        Ok(c) => (((c.total as u64) * 65536 + (c.right as u64)) * 65536 + (c.missing as u64))
+            * 65536
+            + (c.surplus as u64),
         Err(r) => refusal_number(r),
     }
 }
