@@ -3,23 +3,17 @@ use Prim.Native.Nat.{ℕ, ◌+◌, ◌*◌, ◌≤◌, ◌<◌}
 use native.Mathlib.Omega.{arith}
 use native.Mathlib.Numerals.{add-one}
 use mathlib.Core.Path.{◌≡◌, refl, sym, ap, ◌∙◌}
-use mathlib.Core.Bool.{true, cond, ◌&&◌}
+use mathlib.Core.Bool.{true}
 use mathlib.Core.List.{List, [], ◌∷◌, ◌++◌}
-use lib.Dec.{eqb}
 use lib.ListN.{length, get_or, take, set, replicate}
 use lib.Seq.{take-suc, length-take-le}
-use borrow.Author.Tests.{eq-eqb, lt-ltb}
-use Rattle.locks.specs.Lists.{padded, all}
-use Rattle.locks.specs.Words.{Worded, fit_row, is_byte}
-use Rattle.locks.specs.declared.rows.Row.{Row}
-use Rattle.locks.specs.declared.words.Words.{Words}
-use Rattle.locks.proofs.Tests.{and-join}
+use borrow.Author.Tests.{lt-ltb}
+use Rattle.locks.specs.Lists.{padded}
 use Rattle.locks.proofs.Lists.{all_end}
 use Rattle.locks.proofs.Loops.{padded-more}
 use Rattle.rules.specs.State.{no_process, new_process}
 use Rattle.rules.specs.declared.state.Ids.{Ids}
 use Rattle.rules.specs.declared.state.Process.{Process}
-use Rattle.locks.specs.Cells.{Tells, whole_row, words}
 use Rattle.std.proofs.Math.Seq.{paste}
 use Rattle.std.proofs.lemmas.List.Edits.{paste_more, paste_none}
 use Rattle.model.specs.Fields.{Slim, Unnumbered, fields, seven_at}

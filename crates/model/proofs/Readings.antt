@@ -1,24 +1,22 @@
 -- A state read out of the arrays: each process and each row from its numbers, which fit. Assumes nothing.
-use Prim.Native.Nat.{ℕ, zero, suc, ◌+◌, ◌*◌, ◌^◌, ◌≤◌, ◌<◌}
+use Prim.Native.Nat.{ℕ, zero, suc, ◌+◌, ◌*◌, ◌≤◌, ◌<◌}
 use native.Mathlib.Nat.{le_of_suc-le-suc, not-suc-le-zero, suc-mul}
 use native.Mathlib.Omega.{arith}
 use mathlib.Core.Path.{◌≡◌, refl, sym, ap, ◌∙◌, subst}
-use mathlib.Core.Bool.{Bool, true, false, false≢true, and-eq-true_iff}
+use mathlib.Core.Bool.{true, false, false≢true, and-eq-true_iff}
 use mathlib.Core.List.{List, [], ◌∷◌}
 use lib.Dec.{eqb, leb}
 use lib.ListN.{length, get_or, drop}
-use lib.Pow.{pow_mono}
 use lib.Seq.{drop-drop, get_or-drop}
 use borrow.Author.Tests.{eqb-true, leb-true, ltb-true}
-use Rattle.locks.specs.Lists.{mask, member, padded}
+use Rattle.locks.specs.Lists.{member, padded}
 use Rattle.locks.specs.Rows.{no_row, laid_rows, sound_row}
 use Rattle.locks.specs.declared.rows.Row.{Row}
 use Rattle.locks.proofs.Lists.{all-at}
 use Rattle.locks.proofs.Tests.{and_split, cases}
 use Rattle.rules.specs.State.{Machine, no_process, laid, pids, process, view}
-use Rattle.rules.specs.Outcome.{Kind, kind_of, done, now_asleep, caller_ended, Outcome, badstate, number_of, refusal, refused, answered, when, either}
+use Rattle.rules.specs.Outcome.{Kind, kind_of, done, now_asleep, caller_ended, Outcome, badstate, refusal, refused, answered, when, either}
 use Rattle.rules.specs.declared.outcome.Refusal.{Refusal}
-use Rattle.rules.specs.declared.outcome.Refusal.TheVariants.{Badstate, Badcaller, Asleep, Trap, Badcall, Notmodelled, Priv, Noproc, Nomemory, Held, Locked, Deadlock, Lcktable, Notlocked}
 use Rattle.rules.specs.Sound.{ascend, sleep_fits, wake_fits, traps_fit, sound_process, sound}
 use Rattle.rules.specs.Step.{outcome, settled, step_of, woken_mask, ended_mask}
 use Rattle.rules.specs.declared.state.Answer.{Answer}

@@ -8,7 +8,6 @@ ghost use Rattle.turns.specs.Turn.{Holds, Turned};
 ghost use Rattle.turns.specs.declared.kinds.EventKind.TheVariants.{OfCaller};
 
 use crate::kinds::*;
-use signals::{exit, kill, tick};
 use calls::{Registers, fshell, own_call, report, take};
 use locking::{lock, unlock};
 use locks::words::words_of;
@@ -19,6 +18,7 @@ use places::fields::*;
 use rules::calls::*;
 use rules::outcome::*;
 use rules::state::*;
+use signals::{exit, kill, tick};
 
 // The number of the indirect call.
 const INDIRECT: u8 = 0x51;

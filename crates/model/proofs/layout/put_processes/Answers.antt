@@ -1,7 +1,6 @@
 -- `model::layout::put_processes` meets its contract. Assumes nothing.
 use Rattle.std.proofs.Common.{arith, refl}
 use lib.Seq.{take_all}
-use Rattle.model.specs.Fields.{Unnumbered}
 use Rattle.model.proofs.Putting.{put-none, put-more}
 use Rattle.model.proofs.layout.put_processes.Goals as goal
 

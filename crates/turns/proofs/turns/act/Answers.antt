@@ -1,5 +1,5 @@
 -- `turns::turns::act` meets its contract. Assumes nothing.
-use Rattle.std.proofs.Common.{◌≡◌, refl, sym, ◌∙◌, arith}
+use Rattle.std.proofs.Common.{refl, sym, ◌∙◌, arith}
 use Rattle.places.specs.Settled.{asker}
 use Rattle.places.proofs.Callings.{calls-fits}
 use Rattle.turns.proofs.Acting.{act-call, act-report, act-take, act-trap, caller-pending, pending-small}

@@ -1,5 +1,5 @@
 -- `turns::turns::outcome` meets its contract. Assumes nothing.
-use Rattle.std.proofs.Common.{◌≡◌, refl, ap, arith}
+use Rattle.std.proofs.Common.{refl, ap}
 use Rattle.std.proofs.lemmas.Result.{err_from_is_err_and}
 use Rattle.locks.specs.Lists.{between}
 use Rattle.places.proofs.Laying.{housed}

@@ -1,5 +1,4 @@
 -- `turns::turns::turn` meets its contract. Assumes nothing.
-use Rattle.std.proofs.Common.{refl}
 use Rattle.turns.proofs.Border.{turned}
 use Rattle.turns.proofs.turns.turn.Goals as goal
 

@@ -1,5 +1,5 @@
 -- `model::steps::System::of` meets its contract. Assumes nothing.
-use Rattle.std.proofs.Common.{sym, ◌∙◌}
+use Rattle.std.proofs.Common.{sym}
 use Rattle.model.proofs.Readings.{held-state}
 use Rattle.model.proofs.system.System.of.Goals as goal
 
