@@ -1,4 +1,4 @@
-// The routines for the C desk.
+// The routines for the C desk. A Result is handed over as one number: the C interface (desk/brinefeather.h) has no other.
 ghost use Rattle.std.specs.Prelude.{◌≡◌};
 ghost use Rattle.marker.specs.Key.{keyed};
 ghost use Rattle.marker.specs.Mark.{marked};
@@ -23,13 +23,9 @@ fn mark_number(m: Result<Counts, Refusal>) -> u64
     ensures { result ≡ mark_number m }
 {
     match m {
-        Ok(Counts {
-            total,
-            right,
-            missing,
-            surplus,
-        }) => (((total as u64) * 65536 + (right as u64)) * 65536 + (missing as u64)) * 65536
-            + (surplus as u64),
+        Ok(c) => (((c.total as u64) * 65536 + (c.right as u64)) * 65536 + (c.missing as u64))
+            * 65536
+            + (c.surplus as u64),
         Err(r) => refusal_number(r),
     }
 }

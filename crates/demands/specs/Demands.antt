@@ -102,10 +102,10 @@ BeginGives m = begin-promise.Post (replicate NUMBERS 0, tt) (changed (replicate 
 
 -- `turn` asks for this of the arrays m and t and the event e, and gives the answer and the arrays after it
 abbrev pub TurnAsks : List ℕ → List ℕ → Event → Type 0
-TurnAsks m t e = turn-promise.Pre (arrays m t, tt) (changed (arrays m t), (e, tt))
+TurnAsks m t e = turn-promise.Pre (m, tt) (changed (arrays m t), (e, tt))
 
 abbrev pub TurnGives : List ℕ → List ℕ → Event → List ℕ → List ℕ → List ℕ → Type 0
-TurnGives m t e answer after rows = turn-promise.Post (arrays m t, tt) (changed (arrays m t), (e, tt)) answer (changed (arrays after rows), (e, tt))
+TurnGives m t e answer after rows = turn-promise.Post (m, tt) (changed (arrays m t), (e, tt)) answer (changed (arrays after rows), (e, tt))
 
 -- `key` asks for this of the paper p and the buffer, and gives r, with `after` in the buffer then
 abbrev pub KeyAsks : List ℕ → List ℕ → Type 0

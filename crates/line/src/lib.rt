@@ -1,4 +1,4 @@
-// The lines that a program prints: of a refusal, and of a mark.
+// The lines that a program prints, of a refusal and of a mark, each with the newline that `line_of` has.
 #![tactic(auto)]
 
 ghost use Rattle.std.specs.Prelude.{Some};

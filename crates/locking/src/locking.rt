@@ -25,6 +25,9 @@ use rules::outcome::*;
 // A sequence has at most so many bytes.
 const LONGEST: u32 = 16;
 
+// From this form of lock on, those that ask do not wait.
+const CONDITIONAL: u32 = 2;
+
 // Rows have gone: a lock sleeper none of whose rows waits wakes. The mask of those.
 pub fn grant(m: &mut Numbers, t: &Cells) -> u32
     requires { Laid m.old t.now }
@@ -135,7 +138,7 @@ pub fn lock(arrays: &mut Arrays, i: usize, d2: u32, n: u32, bytes: Words) -> Res
     match stands(&arrays.cells, used, c) {
         Standing::Held => Err(Refusal::Held),
         Standing::Free => hold(arrays, used, c),
-        Standing::Waits if 2 <= d2 => Err(Refusal::Locked),
+        Standing::Waits if CONDITIONAL <= d2 => Err(Refusal::Locked),
         Standing::Waits => queue(arrays, i, used, c),
     }
 }

@@ -142,7 +142,7 @@ pub(crate) fn state_in(arrays: &Arrays) -> State
     }
 }
 
-// The answer that four numbers tell.
+// The answer that four numbers tell. Not `From<Reply>`: a reply is a plain array, and `Answer` stands in `rules`.
 pub fn answer_in(out: &Reply) -> Answer
     ensures { (a : Answer) → out.now ≡ four_of a → Small a → result ≡ a }
 {

@@ -47,7 +47,7 @@ pub const PLACES: usize = 16;
 
 pub const ROWS: usize = 32;
 
-// What a reaction, a sleep and a last wake are.
+// What a reaction, a sleep and a last wake are: numbers, since they are stored in the array of numbers and compared with its numbers.
 pub const ABORT: u32 = 0;
 
 pub const IGNORE: u32 = 1;

@@ -61,8 +61,8 @@ returns-in-Free c = λ e a q.
 
 pub returns-in-Waits : goal.returns-in-Waits
 returns-in-Waits c = λ e a q.
-    asked c.requires.0 a q c.if-d2-gt3.false c.in_ok-check_length.ensures.0 c.in_ok-check_length.ensures.1 (elim c.if-d2-eq0.branch [ then-d2-eq0 w ↦ shared-always e q w.if-d2-eq0.true w.shared-is | else-d2-eq0 w ↦ shared-conditional e q w.if-d2-eq0.false w.shared-is ]) c.of.ensures c.row_of-c.ensures c.stands.ensures (λ r y h. lock-locked _ e r (sym c.in-Waits.is ∙ h) (rw q c.if-d2-ge2.true) c.requires.0.laid.lays refl)
+    asked c.requires.0 a q c.if-d2-gt3.false c.in_ok-check_length.ensures.0 c.in_ok-check_length.ensures.1 (elim c.if-d2-eq0.branch [ then-d2-eq0 w ↦ shared-always e q w.if-d2-eq0.true w.shared-is | else-d2-eq0 w ↦ shared-conditional e q w.if-d2-eq0.false w.shared-is ]) c.of.ensures c.row_of-c.ensures c.stands.ensures (λ r y h. lock-locked _ e r (sym c.in-Waits.is ∙ h) (rw q c.if-d2-ge-CONDITIONAL.true) c.requires.0.laid.lays refl)
 
 pub returns-in-Waits-2 : goal.returns-in-Waits-2
 returns-in-Waits-2 c = λ e a q.
-    asked c.requires.0 a q c.if-d2-gt3.false c.in_ok-check_length.ensures.0 c.in_ok-check_length.ensures.1 (elim c.if-d2-eq0.branch [ then-d2-eq0 w ↦ shared-always e q w.if-d2-eq0.true w.shared-is | else-d2-eq0 w ↦ shared-conditional e q w.if-d2-eq0.false w.shared-is ]) c.of.ensures c.row_of-c.ensures c.stands.ensures (λ r y h. lock-waits _ e r (sym c.in-Waits-2.is ∙ h) (rw q c.if-d2-ge2.false) (c.queue.ensures r y))
+    asked c.requires.0 a q c.if-d2-gt3.false c.in_ok-check_length.ensures.0 c.in_ok-check_length.ensures.1 (elim c.if-d2-eq0.branch [ then-d2-eq0 w ↦ shared-always e q w.if-d2-eq0.true w.shared-is | else-d2-eq0 w ↦ shared-conditional e q w.if-d2-eq0.false w.shared-is ]) c.of.ensures c.row_of-c.ensures c.stands.ensures (λ r y h. lock-waits _ e r (sym c.in-Waits-2.is ∙ h) (rw q c.if-d2-ge-CONDITIONAL.false) (c.queue.ensures r y))
