@@ -1,7 +1,6 @@
 // Writes the key of the file `paper` to the file `key`, or prints why there is none.
 #![tactic(auto)]
 
-use line::Refused;
 use papers::layout::Refusal;
 use std::fs;
 use std::rt::Files;
@@ -13,7 +12,9 @@ fn save(rt: &(impl Files + Eprint), key: &[u8]) {
 
 // Prints the line of a refusal.
 fn report(rt: &(impl Print + Eprint), r: Refusal) {
-    files::tell_failure(rt, "standard output", print!(rt; "{}", Refused(r)));
+    let mut out = [0u8; 64];
+    let n = line::refused(r, &mut out);
+    files::tell_failure(rt, "standard output", rt.write_all(&out[..n]));
 }
 
 // Makes the key in `space`, and saves it or says why there is none.

@@ -1,8 +1,8 @@
 -- Lines written out. Assumes nothing.
 use Prim.Native.String.{String}
-use Rattle.std.specs.Prelude.{◌≡◌, List, [], ◌∷◌, map, codes, Err}
+use Rattle.std.specs.Prelude.{◌≡◌, List, [], ◌∷◌, map, Err}
 use Rattle.papers.specs.declared.layout.Refusal.TheVariants.{Badpaper, Blank, Badsheet, Noroom}
-use Rattle.line.specs.Line.{line_of}
+use Rattle.line.specs.Line.{ascii, line_of}
 use Rattle.marker.specs.Mark.{Marked, worth}
 
 unfoldable pub table : List (Marked × String)
@@ -30,4 +30,4 @@ table =
 
 -- the line of each mark is the text beside it
 abbrev pub LineCases : Type 0
-LineCases = map (λ c. line_of c.0) table ≡ map (λ c. codes c.1) table
+LineCases = map (λ c. line_of c.0) table ≡ map (λ c. ascii c.1) table

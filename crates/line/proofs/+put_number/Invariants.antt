@@ -1,0 +1,5 @@
+-- `line::put_number` ends. Assumes nothing.
+use Rattle.line.proofs.+put_number.Given as goal
+
+abbrev pub decreases-put_number : goal.decreases-put_number
+decreases-put_number l = l.n
