@@ -4,6 +4,8 @@ ghost use Rattle.rules.specs.State.{pids};
 ghost use Rattle.places.specs.Places.{place_of};
 ghost use Rattle.places.specs.Places.{PLACE, PLACES, LIVE, Housed, procs_in, waked};
 
+use rules::state::{Sleep, Wake};
+
 // A place has the numbers of one process, and each number its name.
 pub const PLACE: usize = 28;
 
@@ -52,19 +54,19 @@ pub const ABORT: u32 = 0;
 
 pub const IGNORE: u32 = 1;
 
-pub const AWAKE: u32 = 0;
+pub const AWAKE: u32 = Sleep::Awake as u32;
 
-pub const FOR_SIGNAL: u32 = 1;
+pub const FOR_SIGNAL: u32 = Sleep::ForSignal as u32;
 
-pub const FOR_LOCK: u32 = 2;
+pub const FOR_LOCK: u32 = Sleep::ForLock as u32;
 
-pub const FOR_TIME: u32 = 3;
+pub const FOR_TIME: u32 = Sleep::ForTime as u32;
 
-pub const BY_GRANT: u32 = 1;
+pub const BY_GRANT: u32 = Wake::ByGrant as u32;
 
-pub const BY_SIGNAL: u32 = 2;
+pub const BY_SIGNAL: u32 = Wake::BySignal as u32;
 
-pub const BY_TIME: u32 = 3;
+pub const BY_TIME: u32 = Wake::ByTime as u32;
 
 // Number f of the process at place i.
 pub fn of(m: &Numbers, i: usize, f: usize) -> u32
