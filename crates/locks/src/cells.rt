@@ -11,6 +11,7 @@ use crate::rows::{Part, Standing};
 
 // The rows lie in a flat array of numbers, and their count in another (docs/DECISIONS.md, decision 132): so cells by their offsets, and
 // `used` beside the array.
+
 // The numbers of a cell, and where each stands.
 pub const CELL: usize = 4;
 
