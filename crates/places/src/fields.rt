@@ -33,21 +33,21 @@ pub const REACTIONS: usize = 14;
 
 pub const TRAPS: usize = 21;
 
-// Behind the places: how many processes live, how many rows are used, and the next PID.
-pub const LIVE: usize = 448;
-
-pub const USED: usize = 449;
-
-pub const NEXT: usize = 450;
-
-pub const NUMBERS: usize = 451;
-
-pub type Numbers = [u32; NUMBERS];
-
 // How many processes may live, and how many rows may be used.
 pub const PLACES: usize = 16;
 
 pub const ROWS: usize = 32;
+
+// Behind the places: how many processes live, how many rows are used, and the next PID.
+pub const LIVE: usize = PLACES * PLACE;
+
+pub const USED: usize = LIVE + 1;
+
+pub const NEXT: usize = USED + 1;
+
+pub const NUMBERS: usize = NEXT + 1;
+
+pub type Numbers = [u32; NUMBERS];
 
 // What a reaction, a sleep and a last wake are: numbers, since they are stored in the array of numbers and compared with its numbers.
 pub const ABORT: u32 = 0;
@@ -93,7 +93,7 @@ pub fn wake(m: &mut Numbers, i: usize, reason: u32, left: u32)
     m[i * PLACE + LEFT] = left;
 }
 
-// The place of the first process of that PID.
+// The place of the first process of that PID. None: no process has it.
 pub fn find(m: &Numbers, pid: u32) -> Option<usize>
     requires { Housed m.now }
     ensures { MatchOption result (get_or m.now LIVE 0 ≡ place_of pid (pids (procs_in m.now))) (λ i. (i < get_or m.now LIVE 0) × (i ≡ place_of pid (pids (procs_in m.now)))) }
