@@ -29,9 +29,6 @@ module _ {bytes : List ℕ} {w : Words} (p : Worded bytes w) where
   pub length-low : length (take 8 bytes) ≡ 8
   length-low = length-take-le 8 bytes (omega (arith, p.long))
 
-  pub byte_at : (i : ℕ) → get_or bytes i 0 < 256
-  byte_at i = ltb-true (get_or bytes i 0) 256 (all-get is_byte bytes 0 i refl p.small)
-
 -- ---- equal numbers
 
 same-value : (xs ys : List ℕ) → length xs ≡ length ys → all is_byte xs ≡ true → all is_byte ys ≡ true → value xs ≡ value ys → xs ≡ ys

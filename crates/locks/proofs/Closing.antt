@@ -3,9 +3,9 @@ use Prim.Native.Nat.{ℕ, suc, ◌+◌, ◌-◌, ◌≤◌, ◌<◌}
 use native.Mathlib.Omega.{arith}
 use native.Mathlib.Numerals.{add-one}
 use mathlib.Core.Path.{◌≡◌, refl, sym, ap, ◌∙◌}
-use mathlib.Core.List.{List, [], ◌∷◌, ◌++◌, append_assoc}
-use lib.ListN.{length, get_or, take, drop, set, replicate, length-append, length-replicate, length-set, take-append-drop, replicate-append-replicate}
-use lib.Seq.{drop-cons, take-suc-set, drop-set-lt, length-take-le, set_at}
+use mathlib.Core.List.{List, [], ◌∷◌, ◌++◌}
+use lib.ListN.{length, get_or, take, drop, set, replicate, length-append, length-set, replicate-append-replicate}
+use lib.Seq.{drop-cons, take-suc-set, drop-set-lt}
 use Rattle.locks.specs.Lists.{padded}
 use Rattle.locks.specs.Gaps.{unused}
 
@@ -50,16 +50,6 @@ module _ {A : Type 0} where
   -- ---- the places from k to i are unused
 
   module _ (z : A) (k : ℕ) (ys : List A) where
-    pub unused-none : unused z k k ys ≡ ys
-    unused-none = let o : k - k ≡ 0 = omega arith in rw o (take-append-drop k ys)
-
-    pub unused-more : (i : ℕ) → k ≤ i → i < length ys → set (unused z k i ys) i z ≡ unused z k (i + 1) ys
-    unused-more i b l =
-        let zs = replicate (i - k) z in
-        let n : length (take k ys ++ zs) ≡ i = length-append (take k ys) zs ∙ rw (length-take-le k ys (omega arith), length-replicate (i - k) z) (omega arith) in
-        let o : i + 1 - k ≡ (i - k) + 1 = omega arith in
-        rw (drop-cons ys i z l, ← append_assoc (take k ys) zs (get_or ys i z ∷ drop (suc i) ys), set_at (take k ys ++ zs) (get_or ys i z) (drop (suc i) ys) z i n, append_assoc (take k ys) zs (z ∷ drop (suc i) ys), o, ← replicate-append-replicate (i - k) 1 z, append_assoc zs (z ∷ []) (drop (i + 1) ys), add-one i)
-
     pub unused-all : {stay : List A} {n size : ℕ} → take k ys ≡ stay → k ≡ length stay → k ≤ n → n ≤ size → drop n ys ≡ replicate (size - n) z → unused z k n ys ≡ padded size z stay
     unfolding padded
     unused-all {stay} {n} {size} kept e b l behind =

@@ -11,6 +11,7 @@ use crate::rows::{Part, Standing};
 
 // The rows lie in a flat array of numbers, and their count in another (docs/DECISIONS.md, decision 132): so cells by their offsets, and
 // `used` beside the array.
+
 // The numbers of a cell, and where each stands.
 pub const CELL: usize = 4;
 
@@ -126,7 +127,7 @@ pub fn stands(t: &Cells, used: usize, c: Cell) -> Standing
     requires { used ≤ CELLS }
     ensures { (rows : List Row) (r : Row) → Shows t.now rows → length rows ≡ used → Tells c r → result ≡ standing_of rows r }
 {
-    let mut waiting = false;
+    let mut standing = Standing::Free;
     for i in 0..used {
         let x = cell_at(t, i);
         if same_sequence(c, x) {
@@ -134,15 +135,11 @@ pub fn stands(t: &Cells, used: usize, c: Cell) -> Standing
                 return Standing::Held;
             }
             if x.kind < SHARED || c.kind < SHARED {
-                waiting = true;
+                standing = Standing::Waits;
             }
         }
     }
-    if waiting {
-        Standing::Waits
-    } else {
-        Standing::Free
-    }
+    standing
 }
 
 // The new row comes last.

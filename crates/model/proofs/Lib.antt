@@ -1,4 +1,3 @@
 pub mod Putting
 pub mod Readings
-pub mod Replying
 pub mod Unused

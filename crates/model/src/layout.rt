@@ -85,10 +85,7 @@ pub(crate) fn lay_out(s: State) -> Arrays
     requires { sound s ≡ true }
     ensures { Show result (view s) × (s ≡ laid (view s)) }
 {
-    let mut arrays = Arrays {
-        numbers: [0; NUMBERS],
-        cells: [0; WORDS],
-    };
+    let mut arrays = Arrays::zeros();
     put_processes(&s.procs[..s.live], &mut arrays.numbers);
     put_rows(&s.table.rows[..s.table.used], &mut arrays.cells);
     arrays.numbers[LIVE] = s.live as u32;

@@ -70,54 +70,22 @@ fn process_at(m: &Numbers, i: usize) -> Process
     }
 }
 
-const NO_IDS: Ids = Ids {
-    effective: 0,
-    login: 0,
-    program: 0,
-};
-
-const NO_PROCESS: Process = Process {
-    pid: 0,
-    user: NO_IDS,
-    group: NO_IDS,
-    priority: 0,
-    signals: Signals {
-        reactions: [0; 7],
-        pending: 0,
-        traps: [0; 7],
-    },
-    alarm: 0,
-    rest: Rest {
-        sleep: 0,
-        wake: 0,
-        seconds: 0,
-        left: 0,
-    },
-};
-
 fn processes_in(m: &Numbers) -> [Process; 16]
     requires { (get_or m.now LIVE 0 ≤ PLACES) × ((i : ℕ) → i < get_or m.now LIVE 0 → Narrow (process_at m.now i)) }
     ensures { result ≡ padded PLACES no_process (procs_in m.now) }
 {
-    let mut procs = [NO_PROCESS; 16];
+    let mut procs = [Process::default(); 16];
     for i in 0..m[LIVE] as usize {
         procs[i] = process_at(m, i);
     }
     procs
 }
 
-const NO_ROW: Row = Row {
-    owner: 0,
-    shared: false,
-    len: 0,
-    bytes: [0; 16],
-};
-
 fn rows_in(t: &Cells, used: usize) -> [Row; 32]
     requires { (used ≤ ROWS) × ((i : ℕ) → i < used → get_or t.now (i * CELL + OWNER) 0 < 65536) }
     ensures { result ≡ padded ROWS no_row (rows_in t.now used) }
 {
-    let mut rows = [NO_ROW; 32];
+    let mut rows = [Row::default(); 32];
     for i in 0..used {
         rows[i] = Row::from(cell_at(t, i));
     }

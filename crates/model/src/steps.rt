@@ -8,10 +8,8 @@ ghost use Rattle.model.specs.System.{Plays, state_of};
 use crate::layout::lay_out;
 use crate::readout::{answer_in, state_in};
 use crate::system::System;
-use locks::cells::WORDS;
 use places::answers::{Reply, reply};
 use places::arrays::Arrays;
-use places::fields::NUMBERS;
 use rules::outcome::Refusal;
 use rules::state::*;
 use soundness::is_sound;
@@ -21,10 +19,7 @@ impl System {
     pub fn fresh() -> System
         ensures { state_of result ≡ laid fresh }
     {
-        let mut arrays = Arrays {
-            numbers: [0; NUMBERS],
-            cells: [0; WORDS],
-        };
+        let mut arrays = Arrays::zeros();
         turns::begin(&mut arrays.numbers);
         System { arrays }
     }

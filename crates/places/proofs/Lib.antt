@@ -3,7 +3,6 @@ pub mod Finding
 pub mod Laying
 pub mod Located
 pub mod Masking
-pub mod Replies
 pub mod Settling
 pub mod Sevens
 pub mod Turning

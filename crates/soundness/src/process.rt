@@ -7,6 +7,15 @@ ghost use Rattle.soundness.specs.Waiting.{sound_waiting};
 use numbers::in_priority;
 use rules::state::*;
 
+// The numbers of the sleeps, for the patterns of a match.
+const AWAKE: u8 = Sleep::Awake as u8;
+
+const FOR_SIGNAL: u8 = Sleep::ForSignal as u8;
+
+const FOR_LOCK: u8 = Sleep::ForLock as u8;
+
+const FOR_TIME: u8 = Sleep::ForTime as u8;
+
 pub(crate) fn zero_process(p: &Process) -> bool
     ensures { result ≡ zero_process p.now }
 {
@@ -18,8 +27,8 @@ fn sleep_fits(r: Rest) -> bool
     ensures { result ≡ sleep_fits r.sleep r.seconds }
 {
     match r.sleep {
-        0..=2 => r.seconds == 0,
-        3 => 1 <= r.seconds,
+        AWAKE | FOR_SIGNAL | FOR_LOCK => r.seconds == 0,
+        FOR_TIME => 1 <= r.seconds,
         _ => false,
     }
 }
@@ -28,7 +37,7 @@ fn sleep_fits(r: Rest) -> bool
 fn wake_fits(r: Rest) -> bool
     ensures { result ≡ wake_fits r.wake r.left }
 {
-    r.wake <= 3 && (r.wake == 2 || r.left == 0)
+    r.wake <= Wake::ByTime as u8 && (r.wake == Wake::BySignal as u8 || r.left == 0)
 }
 
 // Signal i + 1 is pending, or has no address.
@@ -60,7 +69,7 @@ fn reactions_fit(pid: u16, r: [u32; 7]) -> bool
 fn lock_fits(waiting: usize, sleep: u8) -> bool
     ensures { result ≡ eqb waiting (cond (eqb sleep for_lock) 1 0) }
 {
-    waiting == usize::from(sleep == 2)
+    waiting == usize::from(sleep == FOR_LOCK)
 }
 
 #[tactic(auto, unfolding(crate::specs::Waiting::sound_waiting, rules::specs::Sound::quiet))]
@@ -69,7 +78,7 @@ pub(crate) fn sound_process(p: &Process, waiting: usize) -> bool
 {
     sleep_fits(p.rest)
         && wake_fits(p.rest)
-        && (p.rest.sleep == 0 || p.signals.pending == 0)
+        && (p.rest.sleep == AWAKE || p.signals.pending == 0)
         && traps_fit(p.signals)
         && in_priority(p.priority)
         && reactions_fit(p.pid, p.signals.reactions)

@@ -7,20 +7,13 @@ ghost use Rattle.soundness.specs.Waiting.{AreFound, count_of};
 use locks::cells::*;
 use locks::rows::*;
 
-const NO_ROW: Row = Row {
-    owner: 0,
-    shared: false,
-    len: 0,
-    bytes: [0; 16],
-};
-
 pub(crate) fn zero_row(r: &Row) -> bool
     ensures { result ≡ zero_row r.now }
 {
-    *r == NO_ROW
+    *r == Row::default()
 }
 
-// `ns` are the PIDs of the live, as below.
+// `ns` are the PIDs of the live, here and in the functions below.
 #[tactic(auto, using(crate::proofs::Lists::all_same), unfolding(locks::specs::Rows::sound_row))]
 fn sound_row(r: &Row, ns: &[u16]) -> bool
     ensures { result ≡ sound_row ns.now r.now }

@@ -33,7 +33,7 @@ fn pids_fit(ns: &[u16], next: u32) -> bool
     low <= next && next <= 65536
 }
 
-// "Counts of processes and rows .. lie in the ranges above"
+// Document 01: "Counts of processes and rows .. lie in the ranges above".
 fn counts_fit(live: usize, used: usize) -> bool
     ensures { result ≡ (between 1 16 live && leb used 32) }
 {

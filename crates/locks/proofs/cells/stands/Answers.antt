@@ -1,15 +1,19 @@
--- `cells::stands` meets its contract: none of the first i rows is a twin, and waiting says whether one conflicts. Assumes nothing.
+-- `cells::stands` meets its contract: none of the first i rows is a twin, and standing says whether one conflicts. Assumes nothing.
 use mathlib.Core.Path.{◌≡◌, sym, ap, ◌∙◌}
-use mathlib.Core.Bool.{false, true}
+use mathlib.Core.Bool.{Bool, false, true, cond}
 use native.Mathlib.Omega.{arith}
 use lib.ListN.{length, get_or}
 use lib.Seq.{take_all, take-length}
 use Rattle.locks.specs.Lists.{any}
 use Rattle.locks.specs.Rows.{no_row, twin, has_twin, conflict, waits, standing_of}
+use Rattle.locks.specs.declared.rows.Standing.TheVariants.{Waits, Free}
 use Rattle.locks.proofs.Loops.{some_next, same_next, none-next, found}
 use Rattle.locks.proofs.Telling.{walk, tells_row, tells-owner, twin-here, no-twin-here, no-sequence, by-sequence, calm-shared}
 use Rattle.locks.proofs.cells.stands.Goals as goal
 use Rattle.locks.proofs.cells.stands.Goals.{then-same_sequence+else-x-c+then-x-lt-SHARED, then-x-lt-SHARED-via-then-x-lt-SHARED, then-x-lt-SHARED-via-else-x-lt-SHARED+then-c-lt-SHARED, then-same_sequence+else-x-c+else-x-lt-SHARED+else-c-lt-SHARED, else-same_sequence}
+
+told : {a b : Bool} → a ≡ b → cond a Waits Free ≡ cond b Waits Free
+told = ap (λ a. cond a Waits Free)
 
 pub returns-then-x-c : goal.returns-then-x-c
 unfolding standing_of has_twin
@@ -35,31 +39,20 @@ loop-i-preserved c =
     elim c.if-same_sequence.branch [
       | then-same_sequence+else-x-c+then-x-lt-SHARED w ↦ (
         less (no-twin-here y r (tells-owner x) w.if-x-c.false),
-        w.waiting-is ∙ sym (some_next k (conflict r) no_row (omega (arith, e)) (by-sequence x y (λ f. w.if-x-c.false (sym f)) (λ f g.
-            elim w.then-x-lt-SHARED.branch [ then-x-lt-SHARED-via-then-x-lt-SHARED u ↦ omega arith | then-x-lt-SHARED-via-else-x-lt-SHARED+then-c-lt-SHARED u ↦ omega arith ]) ∙ sym h ∙ w.if-same_sequence.true)),
+        w.standing-is ∙ sym (told (some_next k (conflict r) no_row (omega (arith, e)) (by-sequence x y (λ f. w.if-x-c.false (sym f)) (λ f g.
+            elim w.then-x-lt-SHARED.branch [ then-x-lt-SHARED-via-then-x-lt-SHARED u ↦ omega arith | then-x-lt-SHARED-via-else-x-lt-SHARED+then-c-lt-SHARED u ↦ omega arith ]) ∙ sym h ∙ w.if-same_sequence.true))),
       )
-      | then-same_sequence+else-x-c+else-x-lt-SHARED+else-c-lt-SHARED w ↦ (less (no-twin-here y r (tells-owner x) w.if-x-c.false), w.waiting-is ∙ v.1 ∙ sym (same_next k (conflict r) no_row (omega (arith, e)) (calm-shared x y (omega arith) (omega arith))))
-      | else-same_sequence w ↦ let n = no-sequence x y (sym h ∙ w.if-same_sequence.false) in (less n.0, w.waiting-is ∙ v.1 ∙ sym (same_next k (conflict r) no_row (omega (arith, e)) n.1))
+      | then-same_sequence+else-x-c+else-x-lt-SHARED+else-c-lt-SHARED w ↦ (less (no-twin-here y r (tells-owner x) w.if-x-c.false), w.standing-is ∙ v.1 ∙ sym (told (same_next k (conflict r) no_row (omega (arith, e)) (calm-shared x y (omega arith) (omega arith)))))
+      | else-same_sequence w ↦ let n = no-sequence x y (sym h ∙ w.if-same_sequence.false) in (less n.0, w.standing-is ∙ v.1 ∙ sym (told (same_next k (conflict r) no_row (omega (arith, e)) n.1)))
     ]
 
-pub returns-then-waiting : goal.returns-then-waiting
+pub returns : goal.returns
 unfolding standing_of has_twin waits
-returns-then-waiting c =
+returns c =
     λ rows r l e x.
     let s = c.loop-i in
     let v = s.invariant rows r l e x in
     let a = take_all s.i rows (omega (arith, e)) in
     let h : any (twin r) rows ≡ false = rw a at v.0 in
-    let w : any (conflict r) rows ≡ true = rw a at (sym v.1 ∙ c.if-waiting.true) in
-    rw (h, w)
-
-pub returns-else-waiting : goal.returns-else-waiting
-unfolding standing_of has_twin waits
-returns-else-waiting c =
-    λ rows r l e x.
-    let s = c.loop-i in
-    let v = s.invariant rows r l e x in
-    let a = take_all s.i rows (omega (arith, e)) in
-    let h : any (twin r) rows ≡ false = rw a at v.0 in
-    let w : any (conflict r) rows ≡ false = rw a at (sym v.1 ∙ c.if-waiting.false) in
+    let w = rw a at v.1 in
     rw (h, w)

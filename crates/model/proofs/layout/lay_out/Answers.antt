@@ -1,5 +1,5 @@
 -- `model::layout::lay_out` meets its contract. Assumes nothing.
-use Rattle.std.proofs.Common.{rules, arith, ◌≡◌, refl, sym, length, take}
+use Rattle.std.proofs.Common.{rules, arith, ◌≡◌, sym, length, take}
 use lib.Seq.{length-take-le}
 use Rattle.locks.specs.Rows.{rows_of}
 use Rattle.rules.specs.State.{view}
@@ -20,7 +20,7 @@ put_rows-requires c =
     let b = sound-used s c.requires in
     let n : length s.table.rows ≡ 32 = search rules in
     let k : length (take s.table.used s.table.rows) ≡ s.table.used = length-take-le s.table.used s.table.rows (omega arith) in
-    (omega arith, sound-rows s c.requires, refl)
+    (omega arith, sound-rows s c.requires, c.zeros-arrays.ensures.cells)
 
 pub returns : goal.returns
 unfolding view rows_of

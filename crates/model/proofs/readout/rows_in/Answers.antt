@@ -1,15 +1,16 @@
 -- `model::readout::rows_in` meets its contract. Assumes nothing.
 use Prim.Native.Nat.{◌+◌, ◌*◌}
 use native.Mathlib.Omega.{arith}
-use mathlib.Core.Path.{◌≡◌, refl, ap, ◌∙◌}
+use mathlib.Core.Path.{◌≡◌, ap, ◌∙◌}
 use mathlib.Core.List.{List}
-use lib.ListN.{get_or, set}
+use lib.ListN.{get_or, set, replicate}
 use lib.Seq.{take_all}
 use Rattle.locks.specs.Lists.{padded}
 use Rattle.locks.specs.Rows.{no_row}
 use Rattle.locks.specs.declared.rows.Row.{Row}
 use Rattle.locks.specs.Cells.{CELL, OWNER, four, row_in, rows_in}
 use Rattle.locks.specs.declared.cells.Cell.{Cell}
+use Rattle.soundness.proofs.Zeros.{default_zeros}
 use Rattle.places.specs.Places.{ROWS}
 use Rattle.model.proofs.Putting.{padded-next}
 use Rattle.model.proofs.Readings.{cell-row, row_here, rows-count}
@@ -17,7 +18,10 @@ use Rattle.model.proofs.readout.rows_in.Goals as goal
 
 pub loop-i-init : goal.loop-i-init
 unfolding padded no_row
-loop-i-init c = refl
+loop-i-init c =
+    let d = c.default-rows.ensures in
+    let e : c.default-rows.result ≡ no_row = λ j. record { owner = d.0 j; shared = d.1.0 j; len = d.1.1.0 j; bytes = default_zeros d.1.1.1 j } in
+    ap (λ (r : Row). replicate ROWS r) e
 
 pub loop-i-preserved : goal.loop-i-preserved
 loop-i-preserved c =
