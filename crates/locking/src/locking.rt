@@ -1,5 +1,5 @@
 // Lock and unlock. The caller is the process at place i.
-ghost use Rattle.std.specs.Prelude.{◌≡◌, true, false, [], ◌∷◌, ◌++◌, List, ℕ, ◌≤◌, ◌<◌, ◌-◌, length, take, get_or, MatchResult};
+ghost use Rattle.std.specs.Prelude.{◌≡◌, ◌||◌, eqb, leb, true, false, [], ◌∷◌, ◌++◌, List, ℕ, ◌≤◌, ◌<◌, ◌-◌, length, take, get_or, MatchResult};
 ghost use Rattle.locks.specs.Lists.{all, between};
 ghost use Rattle.rules.specs.Outcome.{badcall};
 ghost use Rattle.locks.specs.Words.{is_byte, value};
@@ -25,8 +25,32 @@ use rules::outcome::*;
 // A sequence has at most so many bytes.
 const LONGEST: u32 = 16;
 
-// From this form of lock on, those that ask do not wait.
-const CONDITIONAL: u32 = 2;
+// The forms of lock, by D2: who asks conditionally does not wait.
+#[derive(Clone, Copy, Debug, PartialEq, Eq)]
+struct Form {
+    shared: bool,
+    conditional: bool,
+}
+
+impl TryFrom<u32> for Form {
+    type Error = Refusal;
+
+    ghost try_from_gives = { λ n r. MatchResult r (λ f. (n ≤ 3) × (f.shared ≡ (eqb n 0 || eqb n 2)) × (f.conditional ≡ leb 2 n)) (λ e. (e ≡ badcall) × (3 < n)) };
+
+    fn try_from(number: u32) -> Result<Form, Refusal> {
+        let (shared, conditional) = match number {
+            0 => (true, false),
+            1 => (false, false),
+            2 => (true, true),
+            3 => (false, true),
+            _ => return Err(Refusal::Badcall),
+        };
+        Ok(Form {
+            shared,
+            conditional,
+        })
+    }
+}
 
 // Rows have gone: a lock sleeper none of whose rows waits wakes. The mask of those.
 pub fn grant(m: &mut Numbers, t: &Cells) -> u32
@@ -128,17 +152,14 @@ pub fn lock(arrays: &mut Arrays, i: usize, d2: u32, n: u32, bytes: Words) -> Res
     requires { Asking arrays.old i × Asked n bytes.low bytes.high }
     ensures { (e : Event) → Sequence e n bytes.low bytes.high → e.d2 ≡ d2 → Settles (shown arrays.old) (do_lock (asker arrays.old i) e (shown arrays.old)) result arrays.new }
 {
-    if 3 < d2 {
-        return Err(Refusal::Badcall);
-    }
+    let form = Form::try_from(d2)?;
     check_length(n)?;
     let used = arrays.numbers[USED] as usize;
-    let shared = d2 == 0 || d2 == 2;
-    let c = row_of(of(&arrays.numbers, i, PID), n, bytes, shared);
+    let c = row_of(of(&arrays.numbers, i, PID), n, bytes, form.shared);
     match stands(&arrays.cells, used, c) {
         Standing::Held => Err(Refusal::Held),
         Standing::Free => hold(arrays, used, c),
-        Standing::Waits if CONDITIONAL <= d2 => Err(Refusal::Locked),
+        Standing::Waits if form.conditional => Err(Refusal::Locked),
         Standing::Waits => queue(arrays, i, used, c),
     }
 }
