@@ -1,10 +1,16 @@
 -- Who wakes when rows have gone. Assumes nothing.
-use Rattle.std.specs.Prelude.{ℕ, ◌<◌, ◌≡◌, List, map, get_or}
-use Rattle.locks.specs.Lists.{mask}
-use Rattle.rules.specs.State.{granted, rows_left}
+use Rattle.std.specs.Prelude.{ℕ, ◌<◌, ◌≡◌, Bool, ◌&&◌, List, eqb, length, map, get_or}
+use Rattle.locks.specs.Lists.{is_zero, mask}
+use Rattle.locks.specs.Rows.{waiting_of}
+use Rattle.locks.specs.declared.rows.Row.{Row}
+use Rattle.rules.specs.State.{for_lock, granted, rows_left}
 use Rattle.rules.specs.declared.state.Process.{Process}
 use Rattle.places.specs.Places.{wakes_by}
 use Rattle.places.specs.Places.{USED, NEXT, Lays, Procs, machine, procs_in}
+
+-- a lock sleeper none of whose rows waits
+abbrev pub is_granted : List Row → Process → Bool
+is_granted rows p = eqb p.rest.sleep for_lock && is_zero (length (waiting_of p.pid rows))
 
 -- f of each process, and the mask of those who wake
 pub record Sweeps (f : Process → Process) (m after : List ℕ) (w : ℕ) : Type 0 where

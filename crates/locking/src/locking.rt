@@ -8,9 +8,10 @@ ghost use Rattle.locks.specs.declared.rows.Row.{Row};
 ghost use Rattle.rules.specs.Calls.{bad_sequence, row_of, do_lock, do_unlock};
 ghost use Rattle.rules.specs.declared.state.Process.{Process};
 ghost use Rattle.rules.specs.declared.state.Event.{Event};
-ghost use Rattle.places.specs.Places.{USED, Laid};
+ghost use Rattle.rules.specs.State.{no_process};
+ghost use Rattle.places.specs.Places.{PLACES, USED, Laid, Procs};
 ghost use Rattle.places.specs.Settled.{Asked, Asking, Sequence, Settles, asker, shown};
-ghost use Rattle.locking.specs.Granted.{Granted};
+ghost use Rattle.locking.specs.Granted.{Granted, is_granted};
 ghost use Rattle.locking.specs.Queued.{Fills, MayNot, MayWait, held_or_full, waits_or_not};
 
 use chains::leads_back;
@@ -52,6 +53,14 @@ impl TryFrom<u32> for Form {
     }
 }
 
+// The process at place i sleeps for a lock, and none of its rows waits.
+fn is_granted(m: &Numbers, t: &Cells, used: usize, i: usize) -> bool
+    requires { (i < PLACES) × (used ≤ CELLS) }
+    ensures { (ps : List Process) (rows : List Row) (next : ℕ) → Procs m.now ps used next → i < length ps → Shows t.now rows → length rows ≡ used → result ≡ is_granted rows (get_or ps i no_process) }
+{
+    of(m, i, SLEEP) == FOR_LOCK && !is_waiting(t, used, of(m, i, PID) as u64)
+}
+
 // Rows have gone: a lock sleeper none of whose rows waits wakes. The mask of those.
 pub fn grant(m: &mut Numbers, t: &Cells) -> u32
     requires { Laid m.old t.now }
@@ -61,7 +70,7 @@ pub fn grant(m: &mut Numbers, t: &Cells) -> u32
     let mut woken: u32 = 0;
     let mut bit: u32 = 1;
     for i in 0..m[LIVE] as usize {
-        if of(m, i, SLEEP) == FOR_LOCK && !is_waiting(t, used, of(m, i, PID) as u64) {
+        if is_granted(m, t, used, i) {
             wake(m, i, BY_GRANT, 0);
             woken += bit;
         }
