@@ -3,15 +3,15 @@ ghost use Rattle.std.specs.Prelude.{◌≡◌, ◌||◌, eqb, leb, true, false, 
 ghost use Rattle.locks.specs.Lists.{all, between};
 ghost use Rattle.rules.specs.Outcome.{badcall};
 ghost use Rattle.locks.specs.Words.{is_byte, value};
-ghost use Rattle.locks.specs.Cells.{CELLS, Tells, Shows};
+ghost use Rattle.locks.specs.Cells.{CELLS, Names, Tells, Shows};
 ghost use Rattle.locks.specs.declared.rows.Row.{Row};
 ghost use Rattle.rules.specs.Calls.{bad_sequence, row_of, do_lock, do_unlock};
 ghost use Rattle.rules.specs.declared.state.Process.{Process};
 ghost use Rattle.rules.specs.declared.state.Event.{Event};
 ghost use Rattle.rules.specs.State.{no_process};
 ghost use Rattle.places.specs.Places.{PLACES, USED, Laid, Procs};
-ghost use Rattle.places.specs.Settled.{Asked, Asking, Sequence, Settles, asker, shown};
-ghost use Rattle.locking.specs.Granted.{Granted, is_granted};
+ghost use Rattle.places.specs.Settled.{Asked, Asking, Sequence, Settles, Whole, asker, shown};
+ghost use Rattle.locking.specs.Granted.{Granted, Named, Released, is_granted};
 ghost use Rattle.locking.specs.Queued.{Fills, MayNot, MayWait, held_or_full, waits_or_not};
 
 use chains::leads_back;
@@ -77,6 +77,17 @@ pub fn grant(m: &mut Numbers, t: &Cells) -> u32
         bit *= 2;
     }
     woken
+}
+
+// That part of the rows of c's owner goes, and who waits no longer wakes: the mask of those.
+pub fn release(arrays: &mut Arrays, c: Cell, part: Part) -> u32
+    requires { Whole arrays.old × Named part c }
+    ensures { (result < 65536) × ((r : Row) → Names part c r → Released part r (shown arrays.old) arrays.new result) }
+{
+    let used = arrays.numbers[USED] as usize;
+    let left = take_out(&mut arrays.cells, used, c, part);
+    arrays.numbers[USED] = left as u32;
+    grant(&mut arrays.numbers, &arrays.cells)
 }
 
 // The first n of the eight bytes of w; all of them from 8 on.
@@ -183,8 +194,6 @@ pub fn unlock(arrays: &mut Arrays, i: usize, n: u32, bytes: Words) -> Result<Rep
     if !has_twin(&arrays.cells, used, c) {
         return Err(Refusal::Notlocked);
     }
-    let left = take_out(&mut arrays.cells, used, c, Part::Twin);
-    arrays.numbers[USED] = left as u32;
-    let woken = grant(&mut arrays.numbers, &arrays.cells);
+    let woken = release(arrays, c, Part::Twin);
     Ok(with_masks(AnswerKind::Done, woken, 0))
 }
