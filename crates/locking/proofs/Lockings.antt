@@ -5,9 +5,9 @@ use mathlib.Core.Path.{◌≡◌, refl, sym, ap, ◌∙◌}
 use mathlib.Core.Bool.{Bool, true, false, cond, ◌||◌, and-false, true≢false}
 use mathlib.Core.Logic.{◌↔◌}
 use mathlib.Core.List.{List, [], ◌∷◌, ◌++◌}
-use lib.Dec.{eqb, ltb}
+use lib.Dec.{eqb, leb, ltb}
 use lib.ListN.{length, get_or, set, length-append}
-use borrow.Author.Tests.{eq-eqb, ne_eqb, le-leb, lt-leb, le-ltb}
+use borrow.Author.Tests.{eq-eqb, ne_eqb, le-ltb}
 use Rattle.locks.specs.Rows.{standing_of, waits, has_twin}
 use Rattle.locks.specs.declared.rows.Row.{Row}
 use Rattle.locks.specs.declared.rows.Standing.{Standing}
@@ -127,18 +127,6 @@ module _ (rows : List Row) (r : Row) {x : Standing} (e : x ≡ standing_of rows 
       go true = refl
       go false = refl
 
--- the kind of the row that the code has asked for
-module _ (e : Event) {b : Bool} {d : ℕ} (q : e.d2 ≡ d) where
-  pub shared-always : d ≡ 0 → b ≡ eqb d 0 → b ≡ asks_shared e
-  shared-always z h =
-      let a : eqb d 0 ≡ (eqb d 0 || eqb d 2) = rw (eq-eqb d 0 z) in
-      h ∙ a ∙ ap (λ (k : ℕ). eqb k 0 || eqb k 2) (sym q)
-
-  pub shared-conditional : (d ≡ 0 → ⊥) → b ≡ eqb d 2 → b ≡ asks_shared e
-  shared-conditional z h =
-      let a : eqb d 2 ≡ (eqb d 0 || eqb d 2) = rw (ne_eqb d 0 z) in
-      h ∙ a ∙ ap (λ (k : ℕ). eqb k 0 || eqb k 2) (sym q)
-
 -- ---- the checks of lock, in their order
 
 module _ {s : Machine} (p : Process) (e : Event) (r : Row) {out m t : List ℕ} where
@@ -154,20 +142,20 @@ module _ {s : Machine} (p : Process) (e : Event) (r : Row) {out m t : List ℕ} 
       settled-past held a (settled-past locked (rw w) (settled-past deadlock (rw w) (settled-under (eqb (length s.rows) ROWS) lcktable (settled-second _ w) c)))
 
   module _ (h : Waits ≡ standing_of s.rows r) where
-    pub lock-locked : 2 ≤ e.d2 → Lays m t s → out ≡ four_of (answer_of 3 11 0 0) → Settled s (lock_row p e r s) out m t
+    pub lock-locked : leb 2 e.d2 ≡ true → Lays m t s → out ≡ four_of (answer_of 3 11 0 0) → Settled s (lock_row p e r s) out m t
     unfolding lock_row
     lock-locked d l o =
         let a = stands-twin s.rows r h in
         let w = stands-waits s.rows r h a in
-        settled-past held a (settled-when locked _ (rw (w, le-leb 2 e.d2 d)) l o)
+        settled-past held a (settled-when locked _ (rw (w, d)) l o)
 
-    pub lock-waits : e.d2 < 2 → Settled s (waits_or_not p r s) out m t → Settled s (lock_row p e r s) out m t
+    pub lock-waits : leb 2 e.d2 ≡ false → Settled s (waits_or_not p r s) out m t → Settled s (lock_row p e r s) out m t
     unfolding lock_row queued
     lock-waits d c =
         let a = stands-twin s.rows r h in
         let w = stands-waits s.rows r h a in
         settled-past held a
-        (settled-past locked (rw (lt-leb 2 e.d2 d) (and-false (waits s.rows r)))
+        (settled-past locked (rw d (and-false (waits s.rows r)))
         (rw w (settled-under (leads_back s.rows r) deadlock (settled-under (eqb (length s.rows) ROWS) lcktable (settled-first _ refl)) c)))
 
 module _ {s : Machine} (p : Process) (e : Event) {out m t : List ℕ} where

@@ -6,19 +6,19 @@ use mathlib.Core.Bool.{Bool, true, false, cond, not, ◌&&◌}
 use mathlib.Core.List.{List, ◌∷◌, [], ◌++◌, map, append-nil}
 use lib.ListN.{length, get_or, take, drop, length-map, length-append, length-drop, drop_of_length-le}
 use lib.Seq.{drop-cons, get_or_at, length-take-le, take_all}
-use Rattle.locks.specs.Lists.{mask, is_zero}
-use Rattle.locks.specs.Rows.{waiting_of}
+use Rattle.locks.specs.Lists.{mask}
 use Rattle.locks.specs.declared.rows.Row.{Row}
 use Rattle.locks.proofs.Lists.{all-at}
 use Rattle.rules.specs.State.{no_process, sleeps, woken_by, granted}
-use Rattle.locking.proofs.Waking.{not-asleep, still-waits, wakes}
+use Rattle.locking.proofs.Waking.{still-asleep, wakes, was-asleep}
+use Rattle.locking.specs.Granted.{is_granted}
 use Rattle.rules.specs.declared.state.Process.{Process}
 use Rattle.places.specs.Places.{wakes_by}
 use Rattle.places.proofs.Located.{map_more, map_same}
 use Rattle.locking.proofs.Marking.{Marked, marked, mark, mark-bit, mark-small}
 use Rattle.locks.specs.Cells.{Shows}
 use Rattle.locks.specs.Pieces.{changes, stores, within}
-use Rattle.places.specs.Places.{LEFT, LIVE, PID, PLACE, PLACES, Procs, SECONDS, SLEEP, Turns, WAKE, numbers, waked, whole}
+use Rattle.places.specs.Places.{LEFT, LIVE, PLACE, PLACES, Procs, SECONDS, SLEEP, Turns, WAKE, numbers, waked, whole}
 use Rattle.places.proofs.Laying.{procs-get, procs-live, procs-set}
 
 -- the first i are changed
@@ -94,26 +94,20 @@ swept {f} {ps} {i = i} k h =
       k.marks.is ∙ ap (mask (wakes_by f)) (take_all i ps a),
     )
 
--- ---- lock sleepers, where these rows are left
+-- ---- lock sleepers, where these rows are left; x is what the code has found
 
-module _ (rows : List Row) {ps : List Process} {u next : ℕ} {m : List ℕ} {n w bit i x : ℕ} (k : Sweep (granted rows) ps u next m n w bit i) (l : i < n) (e : x ≡ get_or m (i * PLACE + SLEEP) 0) where
-  slumber : x ≡ (get_or ps i no_process).rest.sleep
-  unfolding numbers
-  slumber = e ∙ sweep-get k l SLEEP (omega arith)
+module _ (rows : List Row) {ps : List Process} {next : ℕ} {m : List ℕ} {n w bit i : ℕ} (k : Sweep (granted rows) ps (length rows) next m n w bit i) (l : i < n) {t : List ℕ} {used : ℕ} (a : length rows ≡ used) (r : Shows t rows) {x : Bool}
+    (f : (qs : List Process) (xs : List Row) (v : ℕ) → Procs m qs used v → i < length qs → Shows t xs → length xs ≡ used → x ≡ is_granted xs (get_or qs i no_process)) where
+  found : x ≡ is_granted rows (get_or ps i no_process)
+  found = f (partly (granted rows) i ps) rows next (rw a at k.procs) (in-part k l) r a ∙ ap (is_granted rows) (ahead k l)
 
-  pub grant-awake : (x ≡ 2 → ⊥) → Sweep (granted rows) ps u next m n w (bit * 2) (i + 1)
-  grant-awake h = sweep-same k l (not-asleep rows (get_or ps i no_process) (λ g. h (slumber ∙ g)))
+  pub grant-stays : x ≡ false → Sweep (granted rows) ps (length rows) next m n w (bit * 2) (i + 1)
+  grant-stays h = sweep-same k l (still-asleep rows (get_or ps i no_process) (sym found ∙ h))
 
-  module _ {t : List ℕ} {y used : ℕ} {b : Bool} (o : y ≡ get_or m (i * PLACE + PID) 0) (h : (xs : List Row) → Shows t xs → length xs ≡ used → b ≡ not (is_zero (length (waiting_of y xs)))) (r : Shows t rows) (a : length rows ≡ used) where
-    waiting : b ≡ not (is_zero (length (waiting_of (get_or ps i no_process).pid rows)))
-    unfolding numbers
-    waiting = h rows r a ∙ ap (λ (j : ℕ). not (is_zero (length (waiting_of j rows)))) (o ∙ sweep-get k l PID (omega arith))
-
-    pub grant-waits : not b ≡ false → Sweep (granted rows) ps u next m n w (bit * 2) (i + 1)
-    grant-waits g = sweep-same k l (still-waits rows (get_or ps i no_process) waiting g)
-
-    pub grant-woken : x ≡ 2 → not b ≡ true → Sweep (granted rows) ps u next (waked m i 1 0) n (w + bit) (bit * 2) (i + 1)
-    grant-woken g f = sweep-woken k l 1 0 (wakes rows (get_or ps i no_process) waiting (sym slumber ∙ g) f refl) (rw (sym slumber ∙ g))
+  pub grant-woken : x ≡ true → Sweep (granted rows) ps (length rows) next (waked m i 1 0) n (w + bit) (bit * 2) (i + 1)
+  grant-woken h =
+      let g = sym found ∙ h in
+      sweep-woken k l 1 0 (wakes rows (get_or ps i no_process) g) (was-asleep rows (get_or ps i no_process) g)
 
 -- ---- one process changed by a function of the code
 

@@ -3,4 +3,4 @@
 
 mod locking;
 
-pub use crate::locking::{grant, lock, unlock};
+pub use crate::locking::{grant, lock, release, unlock};

@@ -1,16 +1,17 @@
 // Lock and unlock. The caller is the process at place i.
-ghost use Rattle.std.specs.Prelude.{◌≡◌, true, false, [], ◌∷◌, ◌++◌, List, ℕ, ◌≤◌, ◌<◌, ◌-◌, length, take, get_or, MatchResult};
+ghost use Rattle.std.specs.Prelude.{◌≡◌, ◌||◌, eqb, leb, true, false, [], ◌∷◌, ◌++◌, List, ℕ, ◌≤◌, ◌<◌, ◌-◌, length, take, get_or, MatchResult};
 ghost use Rattle.locks.specs.Lists.{all, between};
 ghost use Rattle.rules.specs.Outcome.{badcall};
 ghost use Rattle.locks.specs.Words.{is_byte, value};
-ghost use Rattle.locks.specs.Cells.{CELLS, Tells, Shows};
+ghost use Rattle.locks.specs.Cells.{CELLS, Names, Tells, Shows};
 ghost use Rattle.locks.specs.declared.rows.Row.{Row};
 ghost use Rattle.rules.specs.Calls.{bad_sequence, row_of, do_lock, do_unlock};
 ghost use Rattle.rules.specs.declared.state.Process.{Process};
 ghost use Rattle.rules.specs.declared.state.Event.{Event};
-ghost use Rattle.places.specs.Places.{USED, Laid};
-ghost use Rattle.places.specs.Settled.{Asked, Asking, Sequence, Settles, asker, shown};
-ghost use Rattle.locking.specs.Granted.{Granted};
+ghost use Rattle.rules.specs.State.{no_process};
+ghost use Rattle.places.specs.Places.{PLACES, USED, Laid, Procs};
+ghost use Rattle.places.specs.Settled.{Asked, Asking, Sequence, Settles, Whole, asker, shown};
+ghost use Rattle.locking.specs.Granted.{Granted, Named, Released, is_granted};
 ghost use Rattle.locking.specs.Queued.{Fills, MayNot, MayWait, held_or_full, waits_or_not};
 
 use chains::leads_back;
@@ -25,8 +26,40 @@ use rules::outcome::*;
 // A sequence has at most so many bytes.
 const LONGEST: u32 = 16;
 
-// From this form of lock on, those that ask do not wait.
-const CONDITIONAL: u32 = 2;
+// The forms of lock, by D2: who asks conditionally does not wait.
+#[derive(Clone, Copy, Debug, PartialEq, Eq)]
+struct Form {
+    shared: bool,
+    conditional: bool,
+}
+
+impl TryFrom<u32> for Form {
+    type Error = Refusal;
+
+    ghost try_from_gives = { λ n r. MatchResult r (λ f. (n ≤ 3) × (f.shared ≡ (eqb n 0 || eqb n 2)) × (f.conditional ≡ leb 2 n)) (λ e. (e ≡ badcall) × (3 < n)) };
+
+    fn try_from(number: u32) -> Result<Form, Refusal> {
+        let (shared, conditional) = match number {
+            0 => (true, false),
+            1 => (false, false),
+            2 => (true, true),
+            3 => (false, true),
+            _ => return Err(Refusal::Badcall),
+        };
+        Ok(Form {
+            shared,
+            conditional,
+        })
+    }
+}
+
+// The process at place i sleeps for a lock, and none of its rows waits.
+fn is_granted(m: &Numbers, t: &Cells, used: usize, i: usize) -> bool
+    requires { (i < PLACES) × (used ≤ CELLS) }
+    ensures { (ps : List Process) (rows : List Row) (next : ℕ) → Procs m.now ps used next → i < length ps → Shows t.now rows → length rows ≡ used → result ≡ is_granted rows (get_or ps i no_process) }
+{
+    of(m, i, SLEEP) == FOR_LOCK && !is_waiting(t, used, of(m, i, PID) as u64)
+}
 
 // Rows have gone: a lock sleeper none of whose rows waits wakes. The mask of those.
 pub fn grant(m: &mut Numbers, t: &Cells) -> u32
@@ -37,13 +70,24 @@ pub fn grant(m: &mut Numbers, t: &Cells) -> u32
     let mut woken: u32 = 0;
     let mut bit: u32 = 1;
     for i in 0..m[LIVE] as usize {
-        if of(m, i, SLEEP) == FOR_LOCK && !is_waiting(t, used, of(m, i, PID) as u64) {
+        if is_granted(m, t, used, i) {
             wake(m, i, BY_GRANT, 0);
             woken += bit;
         }
         bit *= 2;
     }
     woken
+}
+
+// That part of the rows of c's owner goes, and who waits no longer wakes: the mask of those.
+pub fn release(arrays: &mut Arrays, c: Cell, part: Part) -> u32
+    requires { Whole arrays.old × Named part c }
+    ensures { (result < 65536) × ((r : Row) → Names part c r → Released part r (shown arrays.old) arrays.new result) }
+{
+    let used = arrays.numbers[USED] as usize;
+    let left = take_out(&mut arrays.cells, used, c, part);
+    arrays.numbers[USED] = left as u32;
+    grant(&mut arrays.numbers, &arrays.cells)
 }
 
 // The first n of the eight bytes of w; all of them from 8 on.
@@ -128,17 +172,14 @@ pub fn lock(arrays: &mut Arrays, i: usize, d2: u32, n: u32, bytes: Words) -> Res
     requires { Asking arrays.old i × Asked n bytes.low bytes.high }
     ensures { (e : Event) → Sequence e n bytes.low bytes.high → e.d2 ≡ d2 → Settles (shown arrays.old) (do_lock (asker arrays.old i) e (shown arrays.old)) result arrays.new }
 {
-    if 3 < d2 {
-        return Err(Refusal::Badcall);
-    }
+    let form = Form::try_from(d2)?;
     check_length(n)?;
     let used = arrays.numbers[USED] as usize;
-    let shared = d2 == 0 || d2 == 2;
-    let c = row_of(of(&arrays.numbers, i, PID), n, bytes, shared);
+    let c = row_of(of(&arrays.numbers, i, PID), n, bytes, form.shared);
     match stands(&arrays.cells, used, c) {
         Standing::Held => Err(Refusal::Held),
         Standing::Free => hold(arrays, used, c),
-        Standing::Waits if CONDITIONAL <= d2 => Err(Refusal::Locked),
+        Standing::Waits if form.conditional => Err(Refusal::Locked),
         Standing::Waits => queue(arrays, i, used, c),
     }
 }
@@ -153,8 +194,6 @@ pub fn unlock(arrays: &mut Arrays, i: usize, n: u32, bytes: Words) -> Result<Rep
     if !has_twin(&arrays.cells, used, c) {
         return Err(Refusal::Notlocked);
     }
-    let left = take_out(&mut arrays.cells, used, c, Part::Twin);
-    arrays.numbers[USED] = left as u32;
-    let woken = grant(&mut arrays.numbers, &arrays.cells);
+    let woken = release(arrays, c, Part::Twin);
     Ok(with_masks(AnswerKind::Done, woken, 0))
 }

@@ -67,6 +67,9 @@ module _ {u : Machine} {m t : List ℕ} (n : ℕ) (l : Lays m t u) (r : Option �
 abbrev pub outside : ℕ → ℕ → Bool
 outside a b = not (between 1 7 a) || not (between 2 65535 b)
 
+pub bad-signal : (a b : ℕ) → between 1 7 a ≡ false → outside a b ≡ true
+bad-signal a b h = or_left (not (between 1 7 a)) _ (rw h refl)
+
 -- the process of that PID, where the sender is not privileged, is the sender's user's
 abbrev allowed : Process → Process → Bool
 allowed p q = privileged p || eqb p.user.effective q.user.effective

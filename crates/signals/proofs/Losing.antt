@@ -1,27 +1,22 @@
 -- Rows of one owner go, and a process ends. Assumes nothing.
-use Prim.Native.Nat.{ℕ, ◌≤◌}
-use native.Mathlib.Nat.{le_trans}
+use Prim.Native.Nat.{ℕ}
 use native.Mathlib.Omega.{arith}
-use mathlib.Core.Path.{◌≡◌, refl, sym}
+use mathlib.Core.Path.{◌≡◌, refl}
 use mathlib.Core.Bool.{false, not}
 use mathlib.Core.List.{List, []}
-use lib.ListN.{length, get_or, set}
+use lib.ListN.{get_or}
 use Rattle.locks.specs.Lists.{keep}
 use Rattle.locks.specs.Rows.{goes, owns, without_owner, without_waiting}
 use Rattle.locks.specs.declared.rows.Row.{Row}
 use Rattle.locks.specs.declared.rows.Part.{Part}
 use Rattle.locks.specs.declared.rows.Part.TheVariants.{Twin, All, Waiting}
-use Rattle.locks.proofs.Fewer.{fewer-length, fewer-sift}
 use Rattle.locks.proofs.Loops.{keep-sift}
 use Rattle.rules.specs.State.{Machine, has, rows_left}
 use Rattle.rules.specs.Signals.{ends, gone}
-use Rattle.locks.specs.Cells.{Left, Names, Rows, staying}
-use Rattle.locking.specs.Granted.{Granted}
-use Rattle.places.specs.Places.{Laid, Lays, NEXT, Procs, ROWS, USED, machine, procs_in}
+use Rattle.locks.specs.Cells.{Names, staying}
+use Rattle.places.specs.Places.{Lays, NEXT, Procs, USED, procs_in}
 use Rattle.locks.specs.declared.cells.Cell.{Cell}
 use Rattle.places.proofs.Laying.{procs-back, procs-next, procs-used}
-use Rattle.locking.proofs.Unlocks as unlocks
-use Rattle.locking.proofs.Unlocks.{left-granted}
 
 -- a row of that owner
 abbrev pub own_row : ℕ → Row
@@ -42,30 +37,9 @@ pub staying-waiting : (r : Row) (rows : List Row) → staying Waiting r rows ≡
 unfolding goes without_waiting
 staying-waiting r rows = refl
 
--- ---- rows go
-
-module _ {m t : List ℕ} (l : Laid m t) where
-  -- what `take_out` has promised
-  pub left-rows : {part : Part} {c : Cell} {u : List ℕ} {k : ℕ} → (part ≡ Twin → ⊥) → ((rows : List Row) (r : Row) → Rows t rows → length rows ≡ get_or m USED 0 → Names part c r → Left part r rows u k)
-      → (r : Row) → c.owner ≡ r.owner → Left part r (machine m t).rows u k
-  left-rows n h r e = h (machine m t).rows r l.lays.rows (sym (procs-used l.lays.procs)) (record { owner = e; whole = λ z. absurd (n z) })
-
-  module _ {part : Part} {r : Row} {u : List ℕ} {k : ℕ} (x : Left part r (machine m t).rows u k) where
-    abbrev rows : List Row
-    rows = staying part r (machine m t).rows
-
-    left-few : length rows ≤ ROWS
-    left-few = le_trans (fewer-length (fewer-sift (λ earlier q. not (goes part r earlier q)) [] (machine m t).rows)) l.lays.used
-
-    pub left-count : k ≤ ROWS
-    left-count = rw x.count left-few
-
-    pub left_laid : Laid (set m USED k) u
-    left_laid = unlocks.left_laid rows l.lays x.laid left-few x.count
-
-    -- who waits no longer wakes
-    pub lost : {v : List ℕ} {w : ℕ} → Granted (set m USED k) u v w → Lays v u (rows_left rows (machine m t))
-    lost g = (left-granted rows l.lays x.laid left-few x.count g).0
+-- a cell of that owner tells what must be known of a request, where its sequence is not asked
+pub of_owner : {part : Part} {c : Cell} {r : Row} → (part ≡ Twin → ⊥) → c.owner ≡ r.owner → Names part c r
+of_owner n e = record { owner = e; whole = λ z. absurd (n z) }
 
 -- ---- a process ends
 

@@ -10,8 +10,8 @@ ghost use Rattle.signals.specs.Moved.{Moved};
 ghost use Rattle.places.specs.Places.{USED, NEXT, Procs, Housed, procs_in};
 ghost use Rattle.places.specs.Settled.{Show, Whole, shown};
 
-use locking::grant;
-use locks::cells::{Cell, take_out};
+use locking::release;
+use locks::cells::Cell;
 use locks::rows::Part;
 use places::arrays::Arrays;
 use places::fields::*;
@@ -49,14 +49,11 @@ pub(crate) fn lose_rows(arrays: &mut Arrays, pid: u32, part: Part)
     requires { Whole arrays.old × (part ≡ Twin → ⊥) }
     ensures { (r : Row) → r.owner ≡ pid → Show arrays.new (rows_left (staying part r (shown arrays.old).rows) (shown arrays.old)) }
 {
-    let used = arrays.numbers[USED] as usize;
     let c = Cell {
         owner: pid as u64,
         ..Cell::default()
     };
-    let left = take_out(&mut arrays.cells, used, c, part);
-    arrays.numbers[USED] = left as u32;
-    grant(&mut arrays.numbers, &arrays.cells);
+    release(arrays, c, part);
 }
 
 pub(crate) fn end_process(arrays: &mut Arrays, pid: u32)

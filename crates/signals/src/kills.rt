@@ -49,7 +49,8 @@ pub fn kill(arrays: &mut Arrays, i: usize, d2: u32, d3: u32) -> Result<Reply, Re
     requires { Asking arrays.old i }
     ensures { (e : Event) → e.d2 ≡ d2 → e.d3 ≡ d3 → Settles (shown arrays.old) (send_kill (asker arrays.old i) e (shown arrays.old)) result arrays.new }
 {
-    if !(1..=7).contains(&d2) || !(2..=65535).contains(&d3) {
+    let signal = Signal::try_from(d2)?;
+    if !(2..=65535).contains(&d3) {
         return Err(Refusal::Badcall);
     }
     let Some(j) = find(&arrays.numbers, d3) else {
@@ -59,8 +60,5 @@ pub fn kill(arrays: &mut Arrays, i: usize, d2: u32, d3: u32) -> Result<Reply, Re
     if user != 0 && user != of(&arrays.numbers, j, USER) {
         return Err(Refusal::Priv);
     }
-    let signal = Signal {
-        number: d2 as usize,
-    };
     Ok(send(arrays, i, j, signal))
 }

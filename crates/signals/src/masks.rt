@@ -26,6 +26,7 @@ impl Past {
     }
 }
 
+// In fixed memory: so a count beside the array.
 // The processes before an event, each at its place; `live` of them lived.
 #[derive(Clone, Copy, Debug)]
 pub(crate) struct Before {
@@ -34,6 +35,7 @@ pub(crate) struct Before {
     ghost fits: { live ≤ PLACES },
 }
 
+// Three functions note, act and settle, line by line: the act of loud_second reads `before`, so a closure would be handed it and is no shorter.
 impl Before {
     ghost use Rattle.rules.specs.State.{Machine};
     ghost use Rattle.rules.specs.Outcome.{kind_number};
@@ -48,6 +50,7 @@ impl Before {
         ensures { Noted (procs_in m.now) result }
     {
         let live = m[LIVE] as usize;
+        // A `for`, since with array::from_fn an exit with 2 processes took 36 ns in place of 23.
         let mut processes = [Past::default(); PLACES];
         for i in 0..live {
             processes[i] = Past {

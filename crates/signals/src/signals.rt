@@ -1,6 +1,8 @@
 // A signal arrives.
-ghost use Rattle.std.specs.Prelude.{◌≡◌, ◌<◌, ◌≤◌, get_or};
+ghost use Rattle.std.specs.Prelude.{◌≡◌, true, false, ◌<◌, ◌≤◌, get_or, MatchResult};
+ghost use Rattle.locks.specs.Lists.{between};
 ghost use Rattle.rules.specs.State.{pids};
+ghost use Rattle.rules.specs.Outcome.{badcall};
 ghost use Rattle.rules.specs.Signals.{roused, trapped, arrives};
 ghost use Rattle.places.specs.Places.{place_of};
 ghost use Rattle.places.specs.Places.{PLACES, LIVE, Turns};
@@ -10,12 +12,28 @@ use crate::endings::*;
 use locks::rows::Part;
 use places::arrays::Arrays;
 use places::fields::*;
+use rules::outcome::Refusal;
 
 // A signal by its number, 1 to 7.
 #[derive(Clone, Copy, Debug)]
 pub(crate) struct Signal {
     pub(crate) number: usize,
     ghost known: { (1 ≤ number) × (number ≤ 7) },
+}
+
+impl TryFrom<u32> for Signal {
+    type Error = Refusal;
+
+    ghost try_from_gives = { λ n r. MatchResult r (λ s. (s.number ≡ n) × (between 1 7 n ≡ true)) (λ e. (e ≡ badcall) × (between 1 7 n ≡ false)) };
+
+    fn try_from(number: u32) -> Result<Signal, Refusal> {
+        if !(1..=7).contains(&number) {
+            return Err(Refusal::Badcall);
+        }
+        Ok(Signal {
+            number: number as usize,
+        })
+    }
 }
 
 fn rouse(m: &mut Numbers, i: usize)

@@ -1,12 +1,11 @@
 -- `locking::locking::grant` meets its contract. The invariant: the first i processes are as `granted` has them, and those who woke are marked. Assumes nothing.
-use mathlib.Core.Bool.{not}
-use mathlib.Core.Path.{sym, ap}
+use mathlib.Core.Path.{sym}
 use Rattle.rules.specs.State.{rows_left}
 use Rattle.places.proofs.Laying.{procs-used}
 use Rattle.locks.proofs.Telling.{rows-shows}
-use Rattle.locking.proofs.Sweep.{sweep, swept, grant-woken, grant-waits, grant-awake}
+use Rattle.locking.proofs.Sweep.{sweep, swept, grant-woken, grant-stays}
 use Rattle.locking.proofs.locking.grant.Goals as goal
-use Rattle.locking.proofs.locking.grant.Goals.{then-of-eq-FOR_LOCK+then-not-is_waiting, else-of-eq-FOR_LOCK, else-of-eq-FOR_LOCK-via-then-of-eq-FOR_LOCK+else-not-is_waiting, else-of-eq-FOR_LOCK-via-else-of-eq-FOR_LOCK}
+use Rattle.locking.proofs.locking.grant.Goals.{then-is_granted, else-is_granted}
 
 pub loop-i-init : goal.loop-i-init
 loop-i-init c = let l = c.requires in (sweep _ l.lays.procs, l.lays.rows, l.used, sym (procs-used l.lays.procs))
@@ -15,13 +14,10 @@ pub loop-i-preserved : goal.loop-i-preserved
 loop-i-preserved c =
     let v = c.loop-i.invariant in
     let l = c.loop-i-test.true in
-    let e = c.of.ensures in (
-      elim c.if-of-eq-FOR_LOCK.branch [
-        | then-of-eq-FOR_LOCK+then-not-is_waiting w ↦ rw (w.m-is, w.woken-is, w.wake.ensures) (grant-woken _ v.0 l e w.of-then-of-eq-FOR_LOCK.ensures w.is_waiting.ensures (rows-shows v.1) v.3 w.if-of-eq-FOR_LOCK.true (ap not w.if-not-is_waiting.true))
-        | else-of-eq-FOR_LOCK w ↦ elim w.else-of-eq-FOR_LOCK.branch [
-          | else-of-eq-FOR_LOCK-via-then-of-eq-FOR_LOCK+else-not-is_waiting x ↦ rw (w.m-is, w.woken-is) (grant-waits _ v.0 l e x.of-then-of-eq-FOR_LOCK.ensures x.is_waiting.ensures (rows-shows v.1) v.3 (ap not x.if-not-is_waiting.false))
-          | else-of-eq-FOR_LOCK-via-else-of-eq-FOR_LOCK x ↦ rw (w.m-is, w.woken-is) (grant-awake _ v.0 l e x.if-of-eq-FOR_LOCK.false)
-        ]
+    let s = rows-shows v.1 in (
+      elim c.if-is_granted.branch [
+        | then-is_granted w ↦ rw (w.m-is, w.woken-is, w.wake.ensures) (grant-woken _ v.0 l v.3 s c.is_granted.ensures w.if-is_granted.true)
+        | else-is_granted w ↦ rw (w.m-is, w.woken-is) (grant-stays _ v.0 l v.3 s c.is_granted.ensures w.if-is_granted.false)
       ],
       v.1,
       v.2,

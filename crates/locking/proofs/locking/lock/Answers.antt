@@ -1,9 +1,9 @@
 -- `locking::locking::lock` meets its contract. Assumes nothing.
 use Prim.Native.Nat.{ℕ, ◌+◌, ◌*◌, ◌≤◌}
 use mathlib.Core.Path.{◌≡◌, sym, ap, ◌∙◌}
-use mathlib.Core.Bool.{Bool, false}
+use mathlib.Core.Bool.{Bool, false, ◌||◌}
 use mathlib.Core.List.{List}
-use lib.Dec.{ltb}
+use lib.Dec.{eqb, leb, ltb}
 use lib.ListN.{length, get_or}
 use borrow.Author.Tests.{lt-ltb}
 use Rattle.locks.proofs.Tests.{or_left, or_right}
@@ -21,19 +21,20 @@ use Rattle.places.proofs.Laying.{procs-used}
 use Rattle.locks.proofs.Telling.{rows-shows}
 use Rattle.locking.proofs.Sequences.{asks-good, asks-out}
 use Rattle.places.proofs.Callings.{caller-pid}
-use Rattle.locking.proofs.Lockings.{lock-bad, lock-free, lock-held, lock-locked, lock-on, lock-waits, shared-always, shared-conditional}
+use Rattle.locking.proofs.Lockings.{lock-bad, lock-free, lock-held, lock-locked, lock-on, lock-waits}
 use mathlib.Core.Path.{refl}
 use Rattle.std.proofs.lemmas.Result.{err_from_is_err_and}
 use Rattle.locking.proofs.locking.lock.Goals as goal
-use Rattle.locking.proofs.locking.lock.Goals.{then-d2-eq0, else-d2-eq0}
 
-pub returns-then-d2-gt3 : goal.returns-then-d2-gt3
-returns-then-d2-gt3 c = λ e a q.
-    lock-bad (caller _ _ _) e (or_left (ltb 3 e.d2) (bad_sequence e) (ap (ltb 3) q ∙ lt-ltb 3 _ c.if-d2-gt3.true)) c.requires.0.laid.lays refl
+pub returns-in_err-form : goal.returns-in_err-form
+returns-in_err-form c = λ e a q.
+    let p = err_from_is_err_and c.from_residual.result c.from_residual.ensures.1 in
+    let k = c.in_err-form.ensures in
+    rw (p.1, p.2, k.0) (lock-bad (caller _ _ _) e (or_left (ltb 3 e.d2) (bad_sequence e) (ap (ltb 3) q ∙ lt-ltb 3 _ k.1)) c.requires.0.laid.lays refl)
 
 pub returns-in_err-check_length : goal.returns-in_err-check_length
 returns-in_err-check_length c = λ e a q.
-    let p = err_from_is_err_and c.from_residual.result c.from_residual.ensures.1 in
+    let p = err_from_is_err_and c.from_residual-in_err-check_length.result c.from_residual-in_err-check_length.ensures.1 in
     let k = c.in_err-check_length.ensures in
     rw (p.1, p.2, k.0) (lock-bad (caller _ _ _) e (or_right (ltb 3 e.d2) (bad_sequence e) (asks-out a k.1)) c.requires.0.laid.lays refl)
 
@@ -53,16 +54,16 @@ asked {m} {t} {i} s {e} a q d l h g o k f y =
 
 pub returns-in-Held : goal.returns-in-Held
 returns-in-Held c = λ e a q.
-    asked c.requires.0 a q c.if-d2-gt3.false c.in_ok-check_length.ensures.0 c.in_ok-check_length.ensures.1 (elim c.if-d2-eq0.branch [ then-d2-eq0 w ↦ shared-always e q w.if-d2-eq0.true w.shared-is | else-d2-eq0 w ↦ shared-conditional e q w.if-d2-eq0.false w.shared-is ]) c.of.ensures c.row_of-c.ensures c.stands.ensures (λ r y h. lock-held _ e r (sym c.in-Held.is ∙ h) c.requires.0.laid.lays refl)
+    asked c.requires.0 a q c.in_ok-form.ensures.0 c.in_ok-check_length.ensures.0 c.in_ok-check_length.ensures.1 (c.in_ok-form.ensures.1 ∙ ap (λ (k : ℕ). eqb k 0 || eqb k 2) (sym q)) c.of.ensures c.row_of-c.ensures c.stands.ensures (λ r y h. lock-held _ e r (sym c.in-Held.is ∙ h) c.requires.0.laid.lays refl)
 
 pub returns-in-Free : goal.returns-in-Free
 returns-in-Free c = λ e a q.
-    asked c.requires.0 a q c.if-d2-gt3.false c.in_ok-check_length.ensures.0 c.in_ok-check_length.ensures.1 (elim c.if-d2-eq0.branch [ then-d2-eq0 w ↦ shared-always e q w.if-d2-eq0.true w.shared-is | else-d2-eq0 w ↦ shared-conditional e q w.if-d2-eq0.false w.shared-is ]) c.of.ensures c.row_of-c.ensures c.stands.ensures (λ r y h. lock-free _ e r (sym c.in-Free.is ∙ h) (c.hold.ensures r y))
+    asked c.requires.0 a q c.in_ok-form.ensures.0 c.in_ok-check_length.ensures.0 c.in_ok-check_length.ensures.1 (c.in_ok-form.ensures.1 ∙ ap (λ (k : ℕ). eqb k 0 || eqb k 2) (sym q)) c.of.ensures c.row_of-c.ensures c.stands.ensures (λ r y h. lock-free _ e r (sym c.in-Free.is ∙ h) (c.hold.ensures r y))
 
 pub returns-in-Waits : goal.returns-in-Waits
 returns-in-Waits c = λ e a q.
-    asked c.requires.0 a q c.if-d2-gt3.false c.in_ok-check_length.ensures.0 c.in_ok-check_length.ensures.1 (elim c.if-d2-eq0.branch [ then-d2-eq0 w ↦ shared-always e q w.if-d2-eq0.true w.shared-is | else-d2-eq0 w ↦ shared-conditional e q w.if-d2-eq0.false w.shared-is ]) c.of.ensures c.row_of-c.ensures c.stands.ensures (λ r y h. lock-locked _ e r (sym c.in-Waits.is ∙ h) (rw q c.if-d2-ge-CONDITIONAL.true) c.requires.0.laid.lays refl)
+    asked c.requires.0 a q c.in_ok-form.ensures.0 c.in_ok-check_length.ensures.0 c.in_ok-check_length.ensures.1 (c.in_ok-form.ensures.1 ∙ ap (λ (k : ℕ). eqb k 0 || eqb k 2) (sym q)) c.of.ensures c.row_of-c.ensures c.stands.ensures (λ r y h. lock-locked _ e r (sym c.in-Waits.is ∙ h) (sym (c.in_ok-form.ensures.2 ∙ ap (leb 2) (sym q)) ∙ c.if-form.true) c.requires.0.laid.lays refl)
 
 pub returns-in-Waits-2 : goal.returns-in-Waits-2
 returns-in-Waits-2 c = λ e a q.
-    asked c.requires.0 a q c.if-d2-gt3.false c.in_ok-check_length.ensures.0 c.in_ok-check_length.ensures.1 (elim c.if-d2-eq0.branch [ then-d2-eq0 w ↦ shared-always e q w.if-d2-eq0.true w.shared-is | else-d2-eq0 w ↦ shared-conditional e q w.if-d2-eq0.false w.shared-is ]) c.of.ensures c.row_of-c.ensures c.stands.ensures (λ r y h. lock-waits _ e r (sym c.in-Waits-2.is ∙ h) (rw q c.if-d2-ge-CONDITIONAL.false) (c.queue.ensures r y))
+    asked c.requires.0 a q c.in_ok-form.ensures.0 c.in_ok-check_length.ensures.0 c.in_ok-check_length.ensures.1 (c.in_ok-form.ensures.1 ∙ ap (λ (k : ℕ). eqb k 0 || eqb k 2) (sym q)) c.of.ensures c.row_of-c.ensures c.stands.ensures (λ r y h. lock-waits _ e r (sym c.in-Waits-2.is ∙ h) (sym (c.in_ok-form.ensures.2 ∙ ap (leb 2) (sym q)) ∙ c.if-form.false) (c.queue.ensures r y))

@@ -3,20 +3,19 @@ use Prim.Native.Nat.{ℕ, ◌+◌, ◌*◌, ◌≤◌}
 use mathlib.Core.Path.{◌≡◌, sym, ◌∙◌}
 use mathlib.Core.Bool.{false}
 use mathlib.Core.List.{List}
-use native.Mathlib.Omega.{arith}
 use lib.ListN.{get_or}
 use Rattle.places.specs.Places.{Calls, PID, PLACE, caller}
 use Rattle.places.proofs.Laying.{procs-used}
 use Rattle.locking.proofs.Sequences.{asks-out, asks-good}
 use Rattle.locks.proofs.Telling.{rows-shows}
 use Rattle.places.proofs.Callings.{calls-ok, caller-pid}
-use Rattle.locking.proofs.Unlocks.{twin-gone, left_laid, left-granted, unlock-bad, unlock-none, unlock-done}
+use Rattle.locking.proofs.Unlocks.{named, unlock-bad, unlock-none, unlock-done}
 use Rattle.locks.specs.Cells.{Tells}
 use Rattle.locks.specs.declared.cells.Cell.{Cell}
 use Rattle.rules.specs.Calls.{bad_sequence, row_of}
 use Rattle.rules.specs.declared.state.Event.{Event}
 use Rattle.rules.specs.declared.state.Process.{Process}
-use Rattle.places.specs.Settled.{Sequence}
+use Rattle.places.specs.Settled.{Sequence, asker}
 use Rattle.locking.proofs.locking.unlock.Goals as goal
 use mathlib.Core.Path.{refl}
 use Rattle.std.proofs.lemmas.Result.{err_from_is_err_and}
@@ -39,25 +38,15 @@ returns-then-not-has_twin c = λ e a.
     let twin = c.has_twin.ensures _ _ (rows-shows l.rows) (sym (procs-used l.procs)) y in
     unlock-none _ e (asks-good a c.in_ok-check_length.ensures.0 c.in_ok-check_length.ensures.1) (sym twin ∙ c.if-not-has_twin.true) l refl
 
-pub overflow_cast-arrays : goal.overflow_cast-arrays
-overflow_cast-arrays c =
+pub release-woken-requires : goal.release-woken-requires
+release-woken-requires c =
     let s = c.requires in
     let y = tells s.0 s.1.event s.1.asks c.in_ok-check_length.ensures.0 c.in_ok-check_length.ensures.1 c.of.ensures c.row_of-c.ensures in
-    let g = twin-gone s.0.laid.lays y c.take_out-left.ensures in
-    record { fits = omega (arith, g.few, g.count) }
-
-pub grant-woken-requires : goal.grant-woken-requires
-grant-woken-requires c =
-    let s = c.requires in
-    let l = s.0.laid.lays in
-    let y = tells s.0 s.1.event s.1.asks c.in_ok-check_length.ensures.0 c.in_ok-check_length.ensures.1 c.of.ensures c.row_of-c.ensures in
-    let g = twin-gone l y c.take_out-left.ensures in
-    left_laid _ l g.rows g.few g.count
+    (s.0.laid, record { row = row_of (asker c.args.arrays.now c.args.i) s.1.event false; names = named _ y })
 
 pub returns : goal.returns
 returns c = λ e a.
     let l = c.requires.0.laid.lays in
     let y = tells c.requires.0 e a c.in_ok-check_length.ensures.0 c.in_ok-check_length.ensures.1 c.of.ensures c.row_of-c.ensures in
     let twin = c.has_twin.ensures _ _ (rows-shows l.rows) (sym (procs-used l.procs)) y in
-    let g = twin-gone l y c.take_out-left.ensures in
-    unlock-done _ e (asks-good a c.in_ok-check_length.ensures.0 c.in_ok-check_length.ensures.1) (calls-ok c.requires.0) (sym twin ∙ c.if-not-has_twin.false) (left-granted _ l g.rows g.few g.count c.grant-woken.ensures) c.with_masks.ensures
+    unlock-done _ e (asks-good a c.in_ok-check_length.ensures.0 c.in_ok-check_length.ensures.1) (calls-ok c.requires.0) (sym twin ∙ c.if-not-has_twin.false) (c.release-woken.ensures.1 _ (named _ y)) c.with_masks.ensures

@@ -1,17 +1,24 @@
-use mathlib.Core.Bool.{false}
-use mathlib.Core.Path.{◌≡◌, refl}
+use mathlib.Core.Bool.{true, false, not}
+use mathlib.Core.Path.{◌≡◌, refl, sym, ◌∙◌}
+use Rattle.std.proofs.lemmas.Result.{err_from_is_err_and}
 use borrow.Author.Rules.{rules}
+use Rattle.locks.specs.Lists.{between}
+use Rattle.locks.proofs.Tests.{or_right}
 use Rattle.places.proofs.Laying.{housed}
-use Rattle.signals.proofs.Killing.{kill-absent, kill-first, kill-foreign, kill-outside, kill-sent, may-any, may-not, may-own, outside}
+use Rattle.signals.proofs.Killing.{bad-signal, kill-absent, kill-first, kill-foreign, kill-outside, kill-sent, may-any, may-not, may-own, outside}
 use Rattle.signals.proofs.kills.kill.Goals as goal
-use Rattle.signals.proofs.kills.kill.Goals.{then-not-contains-via-then-not-contains, then-not-contains-via-else-not-contains+then-not-contains-2, else-user-ne0-via-then-user-ne0+else-user-of, else-user-ne0-via-else-user-ne0}
+use Rattle.signals.proofs.kills.kill.Goals.{else-user-ne0-via-then-user-ne0+else-user-of, else-user-ne0-via-else-user-ne0}
+
+pub returns-in_err-signal : goal.returns-in_err-signal
+returns-in_err-signal c = λ e x y.
+    let p = err_from_is_err_and c.from_residual.result c.from_residual.ensures.1 in
+    let k = c.in_err-signal.ensures in
+    rw (p.1, p.2, k.0) (kill-outside c.requires e x y (bad-signal c.args.d2 c.args.d3 k.1) refl)
 
 pub returns-then-not-contains : goal.returns-then-not-contains
 returns-then-not-contains c =
-    λ e x y.
-    kill-outside c.requires e x y
-    (elim c.then-not-contains.branch [ then-not-contains-via-then-not-contains w ↦ search rules | then-not-contains-via-else-not-contains+then-not-contains-2 w ↦ search rules ])
-    refl
+    let h : outside c.args.d2 c.args.d3 ≡ true = or_right (not (between 1 7 c.args.d2)) _ (search rules) in
+    λ e x y. kill-outside c.requires e x y h refl
 
 pub find-requires : goal.find-requires
 find-requires c = housed c.requires.laid.lays.procs
@@ -36,7 +43,7 @@ returns c =
     let k = c.in-Some.ensures in
     let u = c.of-user.ensures in
     λ e x y.
-    kill-sent c.requires e x y h k.1 k.0
+    kill-sent c.requires e (x ∙ sym c.in_ok-signal.ensures.0) y (rw c.in_ok-signal.ensures.0 h) k.1 k.0
     (elim c.else-user-ne0.branch [
       | else-user-ne0-via-then-user-ne0+else-user-of w ↦ may-own c.requires u k.0 w.of.ensures w.if-user-of.false
       | else-user-ne0-via-else-user-ne0 w ↦ may-any c.requires u _ w.if-user-ne0.false
