@@ -1,4 +1,4 @@
-// The lines that a program prints, of a refusal and of a mark, each with the newline that `line_of` has.
+// The lines that a program prints, of a refusal and of a mark. The text of each ends with its newline, as `line_of` says, so programs print it with print!.
 #![tactic(auto)]
 
 ghost use Rattle.std.specs.Prelude.{Some};
