@@ -23,6 +23,7 @@ fn lay<const N: usize>(out: &mut [u8], header: &[u8; 12], k: usize, n: usize, it
     put_item(&mut out[12 + k..], n, item);
 }
 
+// The two below share `lay`: the header's counts, the place and what stands behind it differ, and are all that each says.
 // One event more, behind the events and before the sequences: the counts are those before it.
 pub(crate) fn lay_event(out: &mut [u8], events: u16, sequences: u16, e: Entry)
     requires { (events + 1 ≤ 1000) × (sequences ≤ 64) × (12 + 20 * events + (20 + 16 * sequences) ≤ length out.old) }
