@@ -1,4 +1,4 @@
-// Runs situations whose answers were derived by hand from document 01; the file `stdout` beside `src` has those answers.
+// Runs situations whose answers were derived by hand from the rules; the file `stdout` beside `src` has those answers.
 #![tactic(auto)]
 
 mod hand;

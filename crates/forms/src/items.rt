@@ -18,7 +18,7 @@ impl Writer {
     }
 }
 
-// The refusals of a writer, by their numbers.
+// The refusals of a writer, in the order of their tests, with their numbers.
 #[derive(Clone, Copy, Debug, PartialEq, Eq)]
 pub enum Refusal {
     Badpaper = 15,

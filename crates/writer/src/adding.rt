@@ -37,6 +37,7 @@ fn is_broken(w: Writer, out: &[u8]) -> bool
 }
 
 // The four refusals, in their order: the item's kind says whether it is misplaced or one too many, and how many bytes it adds.
+// Not an enum or a trait of items: it would take five methods, each written for both items, in place of the five steps that each call has.
 fn check(w: Writer, out: &[u8], misplaced: bool, full: bool, more: u16) -> Result<(), Refusal>
     ensures { result ≡ checked w out.now misplaced full more }
 {

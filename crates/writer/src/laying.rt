@@ -16,13 +16,14 @@ fn put_item<const N: usize>(out: &mut [u8], n: usize, item: &[u8; N])
 
 // Writes a header, and puts an item k bytes behind it, before the n bytes that stand there.
 fn lay<const N: usize>(out: &mut [u8], header: &[u8; 12], k: usize, n: usize, item: &[u8; N])
-    requires { (length header.now ≡ 12) × (12 + k + (N + n) ≤ length out.old) }
+    requires { 12 + k + (N + n) ≤ length out.old }
     ensures { out.new ≡ header.now ++ take k (drop 12 out.old) ++ item.now ++ take n (drop (12 + k) out.old) ++ drop (12 + k + (N + n)) out.old }
 {
     out[..12].copy_from_slice(header);
     put_item(&mut out[12 + k..], n, item);
 }
 
+// The two below share `lay`: the header's counts, the place and what stands behind it differ, and are all that each says.
 // One event more, behind the events and before the sequences: the counts are those before it.
 pub(crate) fn lay_event(out: &mut [u8], events: u16, sequences: u16, e: Entry)
     requires { (events + 1 ≤ 1000) × (sequences ≤ 64) × (12 + 20 * events + (20 + 16 * sequences) ≤ length out.old) }

@@ -29,6 +29,7 @@ pub(crate) fn paper_header(events: u16, sequences: u16) -> [u8; 12]
     let length = sequences_at + 16 * sequences;
     let numbers = [1, events, 12, sequences, sequences_at, length];
     let mut bytes = [0; 12];
+    // Not `chunks_exact_mut`: after it a proof knows the length of the bytes and none of them.
     for (k, x) in numbers.iter().enumerate() {
         bytes[2 * k..2 * k + 2].copy_from_slice(&x.to_be_bytes());
     }

@@ -16,9 +16,6 @@ loop-i-init c =
     let a = c.args in
     (refl, refl, ap (λ s. joined (left s a.p.now a.n 0)) (sym c.fresh-system.ensures))
 
-pub put_reply-requires : goal.put_reply-requires
-put_reply-requires c = (search rules, ap length c.turn-answer.ensures.answer)
-
 pub loop-i-preserved : goal.loop-i-preserved
 loop-i-preserved c =
     let l = c.loop-i in

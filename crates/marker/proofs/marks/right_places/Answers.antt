@@ -5,7 +5,6 @@ use mathlib.Core.Bool.{cond}
 use mathlib.Core.List.{map}
 use native.Mathlib.Nat.{zero-add, add-zero}
 use native.Mathlib.Omega.{arith}
-use lib.ListN.{length}
 use Rattle.rules.specs.Play.{answers_from}
 use Rattle.turns.specs.Turn.{state_in}
 use Rattle.papers.specs.Bytes.{sixteens_from}
@@ -37,9 +36,6 @@ loop-i-init c =
     let a = c.args in
     let z : a.n - 0 ≡ a.n = omega arith in
     (omega arith, rw (zero-add, z) (ap (λ s. right_places (map answer_bytes (answers_from s (events_from a.p.now 12 a.n))) (sixteens_from a.sheet.now 6 a.n)) (sym c.fresh-system.ensures)))
-
-pub stands_at-requires : goal.stands_at-requires
-stands_at-requires c = ap length c.turn-answer.ensures.answer
 
 pub loop-i-preserved : goal.loop-i-preserved
 loop-i-preserved c =
