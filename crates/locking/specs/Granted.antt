@@ -10,13 +10,7 @@ use Rattle.locks.specs.declared.cells.Cell.{Cell}
 use Rattle.locks.specs.Cells.{Names, staying}
 use Rattle.places.specs.declared.arrays.Arrays.{Arrays}
 use Rattle.places.specs.Settled.{Show}
-use Rattle.places.specs.Places.{wakes_by}
-use Rattle.locks.specs.declared.rows.Part.{Part}
-use Rattle.locks.specs.declared.cells.Cell.{Cell}
-use Rattle.locks.specs.Cells.{Names, staying}
-use Rattle.places.specs.declared.arrays.Arrays.{Arrays}
-use Rattle.places.specs.Settled.{Show}
-use Rattle.places.specs.Places.{USED, NEXT, Lays, Procs, machine, procs_in}
+use Rattle.places.specs.Places.{USED, NEXT, Lays, Procs, machine, procs_in, wakes_by}
 
 -- a lock sleeper none of whose rows waits
 abbrev pub is_granted : List Row → Process → Bool
