@@ -16,6 +16,7 @@ fn put_answers(p: &[u8], n: u16, out: &mut [u8])
     requires { 16 * n ≤ length out.old }
     ensures { out.new ≡ joined (map answer_bytes (answers_from (laid fresh) (events_from p.now 12 n))) ++ drop (16 * n) out.old }
 {
+    // The loop of `right_places` plays the paper too. An iterator of the answers would spare each two lines, and take a struct and an impl that state its items again.
     let mut system = System::fresh();
     for i in 0..n {
         let answer = system.turn(event(p, i));

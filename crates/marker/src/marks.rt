@@ -24,6 +24,7 @@ pub struct Counts {
 fn right_places(p: &[u8], sheet: &[u8], n: u16) -> u16
     ensures { result ≡ right_places (map answer_bytes (answers_from (laid fresh) (events_from p.now 12 n))) (sixteens_from sheet.now 6 n) }
 {
+    // The loop of `put_answers` plays the paper too. An iterator of the answers would spare each two lines, and take a struct and an impl that state its items again.
     let mut system = System::fresh();
     let mut right: u16 = 0;
     for i in 0..n {
