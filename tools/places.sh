@@ -10,7 +10,7 @@ found() {
 
 found 1 'an own enum of the shape of Option or Result' '^(pub )?enum (Field|Read|Keyed|Marked|Added)\b'
 found 1 'a constant that stands for a kind or a refusal' \
-    '^(pub )?const (BAD|ASLEEP|TRAP|NOT|PRIV|NO|HELD|LOCKED|DEADLOCK|LCK|DONE|CALLER|REFUSED|ABORT|IGNORE|AWAKE|FOR_|BY_)[A-Z_]*: u(8|32)'
+    '^(pub )?const (BAD|ASLEEP|TRAP|NOT|PRIV|NO|HELD|LOCKED|DEADLOCK|LCK|DONE|CALLER|REFUSED|ABORT|IGNORE|AWAKE|FOR_|BY_)[A-Z_]*: u(8|32) = [0-9]'
 found 1 'a number for a kind, as a field or a parameter' '\b(kind|number|sleep|wake|reason|field|ids): (u8|u32|usize)\b'
 found 1 'a flag beside a value' '^ +(pub )?(named|apart|by_hand): bool'
 found 1 'a lent array that an answer or a refusal is written into' '^ +out: &mut Reply|\(out: &mut Reply'
