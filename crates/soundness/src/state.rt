@@ -56,7 +56,7 @@ fn are_sound(rows: &[Row], procs: &[Process], ns: &[u16]) -> bool
     };
     procs
         .iter()
-        .all(|p| sound_process(p, count_of(&waiters, p.pid)))
+        .all(|p| sound_process(p, waiters.count_of(p.pid)))
 }
 
 pub fn is_sound(s: State) -> bool

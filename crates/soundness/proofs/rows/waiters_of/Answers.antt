@@ -1,13 +1,13 @@
--- `soundness::rows::waiters_of` meets its contract: the first i rows are laid out and told. Assumes nothing.
-use Rattle.std.proofs.Common.{◌∙◌, arith, add-one, get_or, take, sym}
+-- `soundness::rows::waiters_of` meets its contract: the first i rows are laid out, seen and told. Assumes nothing.
+use Rattle.std.proofs.Common.{rules, ◌∙◌, ◌<◌, ◌≡◌, arith, add-one, get_or, take, sym}
 use mathlib.Core.Bool.{and-false}
 use Rattle.std.proofs.Math.Seq.{take-suc, length-take-le}
 use Rattle.locks.specs.declared.rows.Row.{Row}
 use Rattle.locks.specs.Cells.{Tells}
 use Rattle.locks.proofs.Telling.{rows-shows}
-use Rattle.soundness.proofs.Waiting.{blank, watched_none, watched-holds, watched-waits, stands-held, not-apart}
+use Rattle.soundness.proofs.Waiting.{blank, first_of, watched_none, watched-holds, watched-waits, first-new, stands-held, stands-waits, stands-free, not-apart}
 use Rattle.soundness.proofs.rows.waiters_of.Goals as goal
-use Rattle.soundness.proofs.rows.waiters_of.Goals.{in-Waits, in-Free}
+use Rattle.soundness.proofs.rows.waiters_of.Goals.{then-seen-first+in-Waits, then-seen-first+in-Free, else-seen-first}
 
 pub loop-i-init : goal.loop-i-init
 loop-i-init c = watched_none
@@ -20,13 +20,19 @@ loop-i-preserved c =
     let n = length-take-le i rows (omega arith) in
     let p = c.loop-i.invariant in
     let t : Tells c.in_ok-c.c r = c.in_ok-c.ensures.1 in
-    let s = c.stands.ensures (take i rows) r (rows-shows p.laid) n t in
     let f = c.in_ok-c.ensures.0 in
     let a = c.append.ensures (take i rows) r p.laid n t in
+    let b : first_of r < 256 = search rules in
+    let e : c.from-first.result ≡ first_of r = search rules in
     rw (add-one i, take-suc rows i blank (omega arith))
-    (elim c.match-stands.branch [
-      | in-Waits w ↦ rw w.waiters-is (watched-waits p r f a n (omega arith) (sym s ∙ w.in-Waits.is))
-      | in-Free w ↦ rw w.waiters-is (watched-holds p r f a (sym s ∙ w.in-Free.is))
+    (elim c.if-seen-first.branch [
+      | then-seen-first+in-Waits w ↦
+          let s = w.stands.ensures (take i rows) r (rows-shows p.laid) n t in
+          rw (w.owners-is, w.count-is, e) (watched-waits p r f a b (omega (arith, n)) (stands-waits (take i rows) r (sym s ∙ w.in-Waits.is)))
+      | then-seen-first+in-Free w ↦
+          let s = w.stands.ensures (take i rows) r (rows-shows p.laid) n t in
+          rw (w.owners-is, w.count-is, e) (watched-holds p r f a b (stands-free (take i rows) r (sym s ∙ w.in-Free.is)))
+      | else-seen-first w ↦ rw (w.owners-is, w.count-is, e) (watched-holds p r f a b (first-new p r f b (search rules)))
     ])
 
 pub returns-in-Held : goal.returns-in-Held
