@@ -6,6 +6,7 @@ use crate::records::*;
 use papers::entries::Entry;
 
 // Puts an item at the start, before the n bytes that stand there.
+#[inline(always)]
 fn put_item<const N: usize>(out: &mut [u8], n: usize, item: &[u8; N])
     requires { N + n ≤ length out.old }
     ensures { out.new ≡ item.now ++ take n out.old ++ drop (N + n) out.old }
@@ -15,6 +16,7 @@ fn put_item<const N: usize>(out: &mut [u8], n: usize, item: &[u8; N])
 }
 
 // Writes a header, and puts an item k bytes behind it, before the n bytes that stand there.
+#[inline(always)]
 fn lay<const N: usize>(out: &mut [u8], header: &[u8; 12], k: usize, n: usize, item: &[u8; N])
     requires { 12 + k + (N + n) ≤ length out.old }
     ensures { out.new ≡ header.now ++ take k (drop 12 out.old) ++ item.now ++ take n (drop (12 + k) out.old) ++ drop (12 + k + (N + n)) out.old }

@@ -21,6 +21,7 @@ pub(crate) fn entry_bytes(e: Entry) -> [u8; 20]
 }
 
 // The header of a paper with these counts.
+#[inline(always)]
 pub(crate) fn paper_header(events: u16, sequences: u16) -> [u8; 12]
     requires { (events ≤ 1000) × (sequences ≤ 64) }
     ensures { result ≡ paper_header events sequences }
