@@ -1,5 +1,5 @@
 // Lines of a story: numbers apart by spaces.
-ghost use Rattle.std.specs.Prelude.{◌<◌, length, OnSome};
+ghost use Rattle.std.specs.Prelude.{◌<◌, length, IfSome, OnSome};
 
 use rules::state::Event;
 
@@ -53,7 +53,9 @@ impl<'a> Line<'a> {
     }
 }
 
-fn digit(c: u8) -> Option<u32> {
+fn digit(c: u8) -> Option<u32>
+    ensures { IfSome result (λ d. d < 16) }
+{
     match c {
         b'0'..=b'9' => Some(u32::from(c - b'0')),
         b'A'..=b'F' => Some(u32::from(c - b'A' + 10)),

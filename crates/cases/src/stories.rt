@@ -6,11 +6,13 @@ use model::{System, answer_in, fresh, step};
 use rules::state::{Answer, Event, State};
 use std::{fmt, io};
 
-// A story as far as it is played: its state, for `step`, and a system in the same state, for `turn`; none once the state was changed by hand.
+// A story as far as it is played: its state, for `step`, and a system, for `turn`, which is in the same state until that is changed by hand.
+// The system plays on then, so no Option: each event goes through both.
 #[derive(Drop)]
 struct Story {
     state: State,
-    system: Option<System>,
+    system: System,
+    by_hand: bool,
 }
 
 // An answer as a story tells it: its outcome, and what is not 0.
@@ -50,17 +52,18 @@ fn outcome(kind: u8) -> &'static str {
 fn begun() -> Story {
     Story {
         state: fresh(),
-        system: Some(System::fresh()),
+        system: System::fresh(),
+        by_hand: false,
     }
 }
 
-// What `step` answers; it should be what `turn` does too, where there is a system.
+// What `step` answers; it should be what `turn` does too, where the story has not changed the state by hand.
 fn play_event(rt: &impl Print, story: &mut Story, e: Event) -> io::Result<()> {
-    let turned = story.system.as_mut().map(|s| answer_in(&s.turn(e)));
+    let turned = answer_in(&story.system.turn(e));
     let stepped = step(story.state, e);
     story.state = stepped.state;
     print!(rt; "{}", Told(stepped.answer))?;
-    if turned.is_some_and(|t| t != stepped.answer) {
+    if !story.by_hand && turned != stepped.answer {
         print!(rt; " and turn differs")?;
     }
     Ok(())
@@ -72,7 +75,7 @@ fn play_line(rt: &impl Print, story: &mut Story, line: &[u8]) -> io::Result<()> 
         [b'=', ..] => *story = begun(),
         [b'!', rest @ ..] => {
             poke(&mut story.state, rest);
-            story.system = None;
+            story.by_hand = true;
         }
         [b'?', rest @ ..] => {
             let field = peek(&story.state, rest);
