@@ -1,6 +1,6 @@
 -- `model::readout::processes_in` meets its contract. Assumes nothing.
 use native.Mathlib.Omega.{arith}
-use mathlib.Core.Path.{◌≡◌, ap, ◌∙◌}
+use mathlib.Core.Path.{◌≡◌, refl, ap, ◌∙◌}
 use mathlib.Core.List.{List}
 use lib.ListN.{set, replicate}
 use lib.Seq.{take_all}
@@ -29,7 +29,7 @@ loop-i-init c =
       alarm = s.1.0 j;
       rest = record { sleep = r.0 j; wake = r.1.0 j; seconds = r.1.1.0 j; left = r.1.1.1 j };
     } in
-    ap (λ (p : Process). replicate PLACES p) e
+    rw e refl
 
 pub loop-i-preserved : goal.loop-i-preserved
 loop-i-preserved c =
