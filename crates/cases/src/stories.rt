@@ -1,5 +1,9 @@
 // Plays stories. Each line is written again, an event with what it was answered: a line that begins with a digit is an event, = is the fresh
 // state, ! changes the state by hand, ? looks at it, and anything else is a comment.
+ghost use Rattle.std.specs.Prelude.{◌≡◌, List, ℕ};
+ghost use Rattle.rules.specs.Step.{step_of};
+ghost use Rattle.model.specs.System.{Plays};
+
 use crate::hand::{peek, poke};
 use crate::reading::event;
 use model::{System, answer_in, fresh, step};
@@ -58,7 +62,10 @@ fn begun() -> Story {
 }
 
 // What `step` answers; it should be what `turn` does too, where the story has not changed the state by hand.
-fn play_event(rt: &impl Print, story: &mut Story, e: Event) -> io::Result<()> {
+fn play_event(rt: &impl Print, story: &mut Story, e: Event) -> io::Result<()>
+    ensures stepped { story.new.state ≡ (step_of story.old.state e).state }
+    ensures turned { (out : List ℕ) × Plays story.old.system e out story.new.system }
+{
     let turned = answer_in(&story.system.turn(e));
     let stepped = step(story.state, e);
     story.state = stepped.state;
